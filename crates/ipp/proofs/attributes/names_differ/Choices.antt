@@ -1,0 +1,12 @@
+use mathlib.Core.Path.{_≡_}
+use Prim.Native.Nat.{_-_}
+use lib.ListN.{length}
+use Rattle.ipp.specs.Attributes.{attributes, distinct-names}
+use Rattle.ipp.specs.Walk.{items-from}
+use Rattle.ipp.proofs.attributes.names_differ.Given as given
+
+abbrev pub Inv-loop-attribute : given.InvT-loop-attribute
+Inv-loop-attribute l = distinct-names (attributes (items-from (l .src) (l .at))) ≡ distinct-names (attributes (items-from (l .src) (l .start)))
+
+abbrev pub μ-loop-attribute : given.MeasureT-loop-attribute
+μ-loop-attribute l = length (l .src) - l .at

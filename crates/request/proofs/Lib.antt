@@ -1,0 +1,3 @@
+pub mod Gathering
+pub mod Leading
+pub mod Pushing

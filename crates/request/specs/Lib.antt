@@ -1,0 +1,5 @@
+pub mod Answer
+pub mod Examples
+pub mod Request
+pub mod Rules
+pub mod Wanted
