@@ -1,4 +1,5 @@
 -- Events by their numbers. Assumes nothing.
+use mathlib.Core.Path.{_≡_}
 use mathlib.Core.Bool.{Bool, true, cond, _&&_}
 use Prim.Native.Nat.{ℕ}
 use lib.Dec.{eqb, leb}
@@ -7,14 +8,19 @@ use Rattle.std.specs.declared.option.Option.the-variants.{Some, None}
 use Rattle.std.specs.declared.result.Result.{Result}
 use Rattle.std.specs.declared.result.Result.the-variants.{Ok, Err}
 use Rattle.notice.specs.declared.kinds.PrinterKind.{PrinterKind}
+use Rattle.notice.specs.declared.kinds.PrinterKind.the-variants as printer-kind
 use Rattle.notice.specs.declared.kinds.JobKind.{JobKind}
 use Rattle.notice.specs.declared.kinds.JobKind.the-variants as job-kind
 use Rattle.notice.specs.declared.kinds.Kind.{Kind}
 use Rattle.notice.specs.declared.kinds.Kind.the-variants as kind
 use Rattle.notice.specs.declared.states.PrinterState.{PrinterState}
+use Rattle.notice.specs.declared.states.PrinterState.the-variants as printer-state
 use Rattle.notice.specs.declared.states.JobState.{JobState}
+use Rattle.notice.specs.declared.states.JobState.the-variants as job-state
 use Rattle.notice.specs.declared.reasons.PrinterReason.{PrinterReason}
+use Rattle.notice.specs.declared.reasons.PrinterReason.the-variants as printer-reason
 use Rattle.notice.specs.declared.reasons.JobReason.{JobReason}
+use Rattle.notice.specs.declared.reasons.JobReason.the-variants as job-reason
 use Rattle.notice.specs.declared.decline.Decline.{Decline}
 use Rattle.notice.specs.declared.decline.Decline.the-variants.{UnknownKind, EventDetail}
 use Rattle.notice.specs.declared.event.Event.{Event}
@@ -73,3 +79,20 @@ event-at (Some (kind.Job k)) job state reason count accepting = job-event-of k j
 -- the event that the numbers of a kind, a job, a state, a reason, a count and accepting tell of
 abbrev pub event-of : ℕ → ℕ → ℕ → ℕ → ℕ → ℕ → Result Event Decline
 event-of n = event-at (kind-of-number n)
+
+-- on the bounds: what is taken just inside, and the decline just outside
+pub record Event-examples : Type 0 where
+  pub done : event-of 6 2147483647 7 4 2147483647 0 ≡ Ok (Job (record { kind = job-kind.Completed; job = 2147483647; state = job-state.Canceled; reason = job-reason.CanceledByUser; count = 2147483647 }))
+  pub idle : event-of 1 0 3 0 0 1 ≡ Ok (Printer (record { kind = printer-kind.StateChanged; state = printer-state.Idle; reason = printer-reason.None; accepting = true }))
+  pub not-done : event-of 6 1 6 4 0 0 ≡ Err EventDetail
+  pub no-job : event-of 4 0 5 2 0 0 ≡ Err EventDetail
+  pub late-job : event-of 4 2147483648 5 2 0 0 ≡ Err EventDetail
+  pub many : event-of 4 1 5 2 2147483648 0 ≡ Err EventDetail
+  pub job-accepts : event-of 4 1 5 2 0 1 ≡ Err EventDetail
+  pub state-ten : event-of 4 1 10 2 0 0 ≡ Err EventDetail
+  pub printer-job : event-of 1 1 3 0 0 1 ≡ Err EventDetail
+  pub accepts-two : event-of 1 0 3 0 0 2 ≡ Err EventDetail
+  pub printer-six : event-of 1 0 6 0 0 1 ≡ Err EventDetail
+  pub reason-six : event-of 1 0 3 6 0 1 ≡ Err EventDetail
+  pub kind-nine : event-of 9 1 5 2 0 0 ≡ Err UnknownKind
+  pub kind-zero : event-of 0 1 5 2 0 0 ≡ Err UnknownKind

@@ -2,7 +2,7 @@
 ghost use mathlib.Core.Path.{_≡_};
 ghost use Rattle.notice.specs.Declines.{decline-number, decline-of-number, Decline-numbers};
 
-#[derive(Clone, Copy, PartialEq, Eq, Debug)]
+#[derive(Clone, Copy)]
 pub enum Decline {
     // Open: a figure is out of its range, or the accounts times their subscriptions are over 64.
     Figures,

@@ -1,30 +1,16 @@
 // Events of the printer and of its jobs, and the notices that tell of them.
 ghost use mathlib.Core.Path.{_≡_};
-ghost use Rattle.notice.specs.Events.{event-kind, printer-event-of, job-event-of, event-of};
+ghost use Rattle.notice.specs.Events.{event-kind, printer-event-of, job-event-of, event-of, Event-examples};
 use crate::decline::Decline;
 use crate::kinds::JobKind;
-use crate::kinds::JobKindDebug;
-use crate::kinds::JobKindPartialEq;
 use crate::kinds::Kind;
-use crate::kinds::KindDebug;
-use crate::kinds::KindPartialEq;
 use crate::kinds::PrinterKind;
-use crate::kinds::PrinterKindDebug;
-use crate::kinds::PrinterKindPartialEq;
 use crate::reasons::JobReason;
-use crate::reasons::JobReasonDebug;
-use crate::reasons::JobReasonPartialEq;
 use crate::reasons::PrinterReason;
-use crate::reasons::PrinterReasonDebug;
-use crate::reasons::PrinterReasonPartialEq;
 use crate::states::JobState;
-use crate::states::JobStateDebug;
-use crate::states::JobStatePartialEq;
 use crate::states::PrinterState;
-use crate::states::PrinterStateDebug;
-use crate::states::PrinterStatePartialEq;
 
-#[derive(Clone, Copy, PartialEq, Eq, Debug)]
+#[derive(Clone, Copy)]
 pub struct PrinterEvent {
     pub kind: PrinterKind,
     pub state: PrinterState,
@@ -33,7 +19,7 @@ pub struct PrinterEvent {
 }
 
 // `count` is the number of impressions that are completed.
-#[derive(Clone, Copy, PartialEq, Eq, Debug)]
+#[derive(Clone, Copy)]
 pub struct JobEvent {
     pub kind: JobKind,
     pub job: u32,
@@ -42,7 +28,7 @@ pub struct JobEvent {
     pub count: u32,
 }
 
-#[derive(Clone, Copy, PartialEq, Eq, Debug)]
+#[derive(Clone, Copy)]
 pub enum Event {
     Printer(PrinterEvent),
     Job(JobEvent),
@@ -50,7 +36,7 @@ pub enum Event {
 
 // An event as a subscription is told of it: `number` is its place in the numbering of the
 // subscription, from 1, `second` is when it came, and `subscribed` is the kind that was asked for.
-#[derive(Clone, Copy, PartialEq, Eq, Debug)]
+#[derive(Clone, Copy)]
 pub struct Notice {
     pub number: u32,
     pub second: u32,
@@ -98,7 +84,7 @@ fn job_event(
     if job < 1 || job > 2_147_483_647 || count > 2_147_483_647 || accepting != 0 {
         return Err(Decline::EventDetail);
     }
-    if kind == JobKind::Completed && state < 7 {
+    if matches!(kind, JobKind::Completed) && state < 7 {
         return Err(Decline::EventDetail);
     }
     let (Some(state), Some(reason)) = (JobState::from_number(state), JobReason::from_number(reason))
@@ -141,4 +127,11 @@ impl Event {
             Some(Kind::Job(k)) => job_event(k, job, state, reason, count, accepting),
         }
     }
+}
+
+// The bounds of what an event's numbers may be, on examples.
+pub fn events_stand() -> u8
+    ensures { λ _. ⌜ Event-examples ⌝ }
+{
+    0
 }

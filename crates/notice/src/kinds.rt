@@ -3,14 +3,14 @@ ghost use mathlib.Core.Path.{_≡_};
 ghost use Rattle.notice.specs.Kinds.{printer-kind-keyword, job-kind-keyword, kind-keyword};
 ghost use Rattle.notice.specs.Kinds.{kind-number, kind-of-number, kind-broader, of-job, Kind-numbers};
 
-#[derive(Clone, Copy, PartialEq, Eq, Debug)]
+#[derive(Clone, Copy)]
 pub enum PrinterKind {
     StateChanged,
     Stopped,
     ConfigChanged,
 }
 
-#[derive(Clone, Copy, PartialEq, Eq, Debug)]
+#[derive(Clone, Copy)]
 pub enum JobKind {
     StateChanged,
     Created,
@@ -46,7 +46,7 @@ impl JobKind {
 }
 
 // An event is of the printer or of a job.
-#[derive(Clone, Copy, PartialEq, Eq, Debug)]
+#[derive(Clone, Copy)]
 pub enum Kind {
     Printer(PrinterKind),
     Job(JobKind),

@@ -22,6 +22,3 @@ pub use sets::KindSet;
 pub use states::JobState;
 pub use states::PrinterState;
 pub use status::Status;
-
-#[cfg(test)]
-mod tests;

@@ -10,7 +10,7 @@ ghost use Rattle.notice.specs.Reasons.{
   Reason-numbers,
 };
 
-#[derive(Clone, Copy, PartialEq, Eq, Debug)]
+#[derive(Clone, Copy)]
 pub enum JobReason {
     None,
     Incoming,
@@ -62,7 +62,7 @@ impl JobReason {
     }
 }
 
-#[derive(Clone, Copy, PartialEq, Eq, Debug)]
+#[derive(Clone, Copy)]
 pub enum PrinterReason {
     None,
     Paused,

@@ -5,7 +5,7 @@ ghost use Rattle.notice.specs.Kinds.{job-kinds};
 use crate::kinds::JobKind;
 use crate::kinds::Kind;
 
-#[derive(Clone, Copy, PartialEq, Eq, Debug)]
+#[derive(Clone, Copy)]
 pub struct KindSet {
     bits: u8,
 }

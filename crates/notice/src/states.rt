@@ -10,7 +10,7 @@ ghost use Rattle.notice.specs.States.{
   State-numbers,
 };
 
-#[derive(Clone, Copy, PartialEq, Eq, Debug)]
+#[derive(Clone, Copy)]
 pub enum JobState {
     Pending,
     PendingHeld,
@@ -66,7 +66,7 @@ impl JobState {
     }
 }
 
-#[derive(Clone, Copy, PartialEq, Eq, Debug)]
+#[derive(Clone, Copy)]
 pub enum PrinterState {
     Idle,
     Processing,

@@ -2,7 +2,7 @@
 ghost use mathlib.Core.Path.{_≡_};
 ghost use Rattle.notice.specs.Statuses.{status-code, status-of-code, status-keyword, Status-codes};
 
-#[derive(Clone, Copy, PartialEq, Eq, Debug)]
+#[derive(Clone, Copy)]
 pub enum Status {
     Successful,
     EventsComplete,
