@@ -10,7 +10,7 @@ use std::alloc::AllocError;
 use std::alloc::Global;
 use std::alloc::Refused;
 
-#[derive(Clone, Copy, PartialEq, Eq, Debug)]
+#[derive(Clone, Copy)]
 pub enum HexFault {
     // A character is no hexadecimal digit.
     Digit,

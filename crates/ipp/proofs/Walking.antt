@@ -1,19 +1,22 @@
 -- Each item lies behind the one before it, so a walk over them ends; one step of it. Assumes nothing.
-use mathlib.Core.Path.{_≡_, refl, sym, ap, _∙_}
+use mathlib.Core.Path.{_≡_, refl, ap, _∙_}
 use mathlib.Core.Bool.{Bool}
-use mathlib.Core.List.{List, [], _∷_}
-use Prim.Native.Nat.{ℕ, zero, suc, _+_, _-_, _<_, _≤_}
+use mathlib.Core.List.{List, _∷_}
+use Prim.Native.Nat.{ℕ, zero, suc, _-_, _<_, _≤_}
 use native.Mathlib.Omega.{arith}
 use lib.ListN.{length}
 use Rattle.std.proofs.shelf.Ways.{tells}
+use Rattle.std.specs.declared.option.Option.{Option}
+use Rattle.std.specs.declared.option.Option.the-variants.{Some, None}
 use Rattle.std.specs.declared.result.Result.{Result}
 use Rattle.std.specs.declared.result.Result.the-variants.{Ok, Err}
 use Rattle.ipp.specs.declared.attributes.Fault.{Fault}
 use Rattle.ipp.specs.declared.items.Item.{Item}
 use Rattle.ipp.specs.declared.items.Item.the-variants.{Mark, Attribute, Further, End}
+use Rattle.ipp.specs.declared.values.Value.{Value}
 use Rattle.ipp.specs.Bytes.{Run, counted-at}
 use Rattle.ipp.specs.Items.{Piece, mark, attribute, further, end, item-at, piece-of}
-use Rattle.ipp.specs.Turns.{Next, on, done, run, run-on, run-done}
+use Rattle.ipp.specs.Turns.{on, run-on}
 use Rattle.ipp.specs.Walk.{opened, State, moved, turned, stepped, step, end-from, linked, gathered, at-most, items-from}
 
 counted-falls : (xs : List ℕ) (at : ℕ) (q : Run × ℕ) → counted-at xs at ≡ Ok q → (at < q .1) × (q .1 ≤ length xs)
@@ -85,3 +88,8 @@ module _ (xs : List ℕ) where
   pub items-step : (at : ℕ) (r : Result (Piece × ℕ) Fault) → item-at xs at ≡ r → items-from xs at ≡ gathered (items-from xs) r
   unfolding items-from
   items-step at r e = ap (gathered (at-most xs (length xs - at))) e ∙ items-by at r e
+
+-- how many bytes are left behind a value, and one more; 0 where there is none: this falls from a value to the next
+abbrev pub bytes-left : List ℕ → Option Value → ℕ
+bytes-left xs None = 0
+bytes-left xs (Some v) = suc (length xs - v .next)

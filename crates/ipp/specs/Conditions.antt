@@ -1,15 +1,11 @@
 -- Conditions on the values of an attribute. Assumes nothing.
 use mathlib.Core.Bool.{Bool, true, not, _&&_}
 use mathlib.Core.List.{List, [], _∷_}
-use Prim.Native.Nat.{ℕ, suc, _-_}
+use Prim.Native.Nat.{ℕ}
 use lib.Dec.{eqb}
-use lib.ListN.{length}
-use Rattle.std.specs.declared.option.Option.{Option}
-use Rattle.std.specs.declared.option.Option.the-variants.{Some, None}
 use Rattle.std.specs.declared.result.Result.{Result}
 use Rattle.std.specs.declared.result.Result.the-variants.{Ok, Err}
 use Rattle.ipp.specs.declared.attributes.Fault.{Fault}
-use Rattle.ipp.specs.declared.values.Value.{Value}
 use Rattle.ipp.specs.Attributes.{Tagged}
 use Rattle.ipp.specs.Values.{positive-of}
 
@@ -29,8 +25,3 @@ number-in bs = or-zero (positive-of bs)
 abbrev pub distinct-numbers : List Tagged → Bool
 distinct-numbers [] = true
 distinct-numbers (v ∷ vs) = all (λ w. not (eqb (number-in (w .1)) (number-in (v .1)))) vs && distinct-numbers vs
-
--- how many bytes are left behind a value, and one more; 0 where there is none
-abbrev pub bytes-left : List ℕ → Option Value → ℕ
-bytes-left xs None = 0
-bytes-left xs (Some v) = suc (length xs - v .next)

@@ -7,7 +7,6 @@ use lib.Dec.{leb, ltb, eqb}
 use lib.ListN.{length, getD}
 use Rattle.std.specs.declared.result.Result.{Result}
 use Rattle.std.specs.declared.result.Result.the-variants.{Ok, Err}
-use Rattle.ipp.specs.declared.bytes.Fault as low
 use Rattle.ipp.specs.declared.bytes.Fault.the-variants as lows
 use Rattle.ipp.specs.declared.attributes.Fault.{Fault}
 use Rattle.ipp.specs.declared.attributes.Fault.the-variants.{Bytes, ZeroTag}

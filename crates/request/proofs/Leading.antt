@@ -10,7 +10,7 @@ use Rattle.std.specs.declared.option.Option.the-variants.{Some}
 use Rattle.std.specs.shelf.Text.{sameBytes}
 use Rattle.ipp.specs.declared.attributes.Attribute.{Attribute}
 use Rattle.ipp.specs.Attributes.{attributes, attributes-at, values-at}
-use Rattle.request.specs.Rules.{leading, is-named}
+use Rattle.request.specs.Rules.{leading}
 use Rattle.ipp.specs.Walk.{items-from}
 
 -- two attributes that follow one another lead by their names and tags

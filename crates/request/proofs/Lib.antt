@@ -1,3 +1,4 @@
 pub mod Gathering
 pub mod Leading
 pub mod Pushing
+pub mod Soundness

@@ -2,4 +2,5 @@ pub mod Answer
 pub mod Examples
 pub mod Request
 pub mod Rules
+pub mod Sound
 pub mod Wanted

@@ -2,6 +2,7 @@
 ghost use mathlib.Core.Path.{_≡_};
 ghost use Rattle.request.specs.Answer.{answer-of, said, status-of};
 ghost use Rattle.request.specs.Examples.{Examples};
+ghost use Rattle.request.specs.Sound.{Accepted-is-sound};
 use crate::Fault;
 use crate::Request;
 use crate::reading::read_request;
@@ -32,6 +33,13 @@ pub fn read(src: &[u8]) -> Result<Request, Status>
 // The worked examples: what some requests come to, by computation from the definitions.
 pub fn examples_stand() -> u8
     ensures { λ _. ⌜ Examples ⌝ }
+{
+    0
+}
+
+// A request that is accepted asks for 1 to 8 subscriptions, none twice, each from a number on.
+pub fn accepted_is_sound() -> u8
+    ensures { λ _. ⌜ Accepted-is-sound ⌝ }
 {
     0
 }

@@ -1,6 +1,7 @@
 use mathlib.Core.Path.{_≡_}
 use Rattle.ipp.specs.Attributes.{values-at}
-use Rattle.ipp.specs.Conditions.{all, bytes-left}
+use Rattle.ipp.specs.Conditions.{all}
+use Rattle.ipp.proofs.Walking.{bytes-left}
 use Rattle.ipp.proofs.conditions.every.Given as given
 
 abbrev pub Inv-loop-next : given.InvT-loop-next

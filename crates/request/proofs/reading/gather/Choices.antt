@@ -3,7 +3,7 @@ use mathlib.Core.Path.{_≡_}
 use Prim.Native.Nat.{_+_}
 use lib.ListN.{length}
 use Rattle.ipp.specs.Attributes.{values-at}
-use Rattle.ipp.specs.Conditions.{bytes-left}
+use Rattle.ipp.proofs.Walking.{bytes-left}
 use Rattle.request.specs.Request.{asks}
 use Rattle.request.specs.Wanted.{asked-in}
 use Rattle.request.proofs.reading.gather.Given as given
