@@ -436,6 +436,9 @@ bad(0x0400, "a further value as the first item",
 bad(0x0400, "the mark 0x02 as the first item", head() + b"\x02\x01" + BASE + b"\x03")
 bad(0x0400, "the mark 0x02 in place of 0x01", head() + b"\x02" + BASE + b"\x03")
 bad(0x0400, "the end as the first item", head() + b"\x03")
+for mark in (0x04, 0x0F):
+    bad(0x0400, "all is well but that the only group is 0x%02X" % mark,
+        head() + bytes([mark]) + BASE + b"\x03")
 bad(0x0400, "an empty group 0x01", head() + b"\x01\x03")
 bad(0x0400, "the mark 0x01 twice, the attributes shared out",
     request(FRONT, b"\x01", ids(100)))
