@@ -10,9 +10,10 @@ use Rattle.std.specs.declared.result.Result.{Result}
 use Rattle.std.specs.declared.result.Result.the-variants.{Ok, Err}
 use Rattle.notice.specs.declared.status.Status.{Status}
 use Rattle.notice.specs.declared.status.Status.the-variants.{BadRequest, CharsetNotSupported, NotSupported, OperationNotSupported, VersionNotSupported}
+use Rattle.request.specs.declared.Fault.the-variants.{FurtherValues, NameTwice}
 use Rattle.request.specs.declared.wanted.Asked.{Asked}
 use Rattle.request.specs.Answer.{answer-of}
-use Rattle.request.specs.Request.{Wish}
+use Rattle.request.specs.Request.{Wish, request-of}
 
 -- an attribute of one value, and one more value, of less than 256 bytes each
 abbrev pub attribute : ℕ → String → List ℕ → List ℕ
@@ -63,3 +64,6 @@ pub record Examples : Type 0 where
   pub nine : answer-of (common ++ ids (integer 1) ++ further 0x21 (integer 2) ++ further 0x21 (integer 3) ++ further 0x21 (integer 4) ++ further 0x21 (integer 5) ++ further 0x21 (integer 6) ++ further 0x21 (integer 7) ++ further 0x21 (integer 8) ++ further 0x21 (integer 9) ++ 0x03 ∷ []) ≡ Err NotSupported
   pub version : answer-of (3 ∷ 0 ∷ 0 ∷ 0 ∷ 0 ∷ 0 ∷ 0 ∷ 0 ∷ []) ≡ Err VersionNotSupported
   pub operation : answer-of (1 ∷ 1 ∷ 0 ∷ 0x1B ∷ 0 ∷ 0 ∷ 0 ∷ 1 ∷ []) ≡ Err OperationNotSupported
+  -- the fault that is named first: a further id by its tag only at the last condition; a name twice before an id 0
+  pub other-tag : request-of (common ++ ids (integer 5) ++ further 0x23 (integer 6) ++ 0x03 ∷ []) ≡ Err FurtherValues
+  pub two-faults : request-of (common ++ ids (integer 0) ++ uri ++ 0x03 ∷ []) ≡ Err NameTwice

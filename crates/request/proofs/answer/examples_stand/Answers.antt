@@ -21,4 +21,6 @@ returns c = record {
   nine = refl;
   version = refl;
   operation = refl;
+  other-tag = refl;
+  two-faults = refl;
 }
