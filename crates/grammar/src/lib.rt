@@ -1,4 +1,6 @@
 // The grammar of a request's items, and that the reader of crate ipp accepts it and nothing else.
+#![tactic(auto)]
+
 ghost use Rattle.grammar.specs.Grammar.{Reads, Only};
 
 // The items that the reader accepts are those of the grammar, and it reads them back as they were written.

@@ -1,4 +1,6 @@
 // Hexadecimal text and the bytes that it stands for, two digits a byte.
+#![tactic(auto)]
+
 ghost use Rattle.std.specs.Prelude.{◌≡◌, ◌+◌, ◌<◌, ◌≤◌, length, IfOk, string_bytes, OnOk};
 ghost use Rattle.hex_text.specs.declared.HexFault.TheVariants.{Memory};
 ghost use Rattle.hex_text.specs.Hex.{digit_of, byte_at, bytes_of, Says, char_of, text_of, ReadsBack};

@@ -1,4 +1,6 @@
 // Reads requests as lines of hexadecimal text, and says of each what it asks for or how it is refused.
+#![tactic(auto)]
+
 use lines::{Outcome, examine_line};
 use request::Request;
 use std::io::{BufRead, BufReader};

@@ -1,5 +1,7 @@
 // What a print hub tells its subscribers: kinds of event, states, reasons, events and notices,
 // and the numbers that it answers a call or a request with.
+#![tactic(auto)]
+
 pub mod decline;
 pub mod event;
 pub mod kinds;

@@ -1,4 +1,6 @@
 // Reading a Get-Notifications request (RFC 3996): its rules, and what it asks for.
+#![tactic(auto)]
+
 ghost use Rattle.std.specs.Prelude.{◌≡◌};
 ghost use Rattle.request.specs.declared.Fault.TheVariants.{Attributes, Bytes};
 

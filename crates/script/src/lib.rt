@@ -1,4 +1,6 @@
 // Steps that can be asked of any store, and what is seen of it.
+#![tactic(auto)]
+
 pub mod playing;
 pub mod steps;
 

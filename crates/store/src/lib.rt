@@ -1,4 +1,6 @@
 // What a store of notices is, and the simplest of the stores.
+#![tactic(auto)]
+
 pub mod interface;
 pub mod lanes;
 pub mod meaning;

@@ -1,4 +1,6 @@
 // Plays scripts on several stores, and says what each group of them shows.
+#![tactic(auto)]
+
 use lines::{Line, read_line};
 use parts::Part;
 use show::show_part;
