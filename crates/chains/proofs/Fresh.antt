@@ -70,28 +70,20 @@ fresh_holds ps n cs k f s r v ff fl fc l h e ek en hs hr hv =
     let at : (i k : ℕ) → k < (chain_at ds i).count → place_of nx ds i k ≡ k =
     λ i k lt. ap (λ (i : ℕ). place_of nx ds i k) (only_first f s i k lt) ∙ ap (λ (p : ℕ). step nx p k) ff ∙ in_row nx n k h (count i k lt) in
     let z : s + 1 - 1 ≡ s = omega arith in
-    subst (λ (cs : List Chain). Holds ps n cs k 0 r v) (sym e) (
-      (λ i k lt. omega (arith, at i k lt, count i k lt, l, len)),
-      (
-        (λ p q w. only_first f s p.0 p.1 w.0 ∙ sym (only_first f s q.0 q.1 w.1)),
-        (
-          (λ i q w. sym (at i q.0 w.0) ∙ w.2 ∙ at i q.1 w.1),
-          (
-            (λ i p.
-                let b = ap (λ (i : ℕ). chain_at ds i) (only_first f s i 0 p) in
-                let c : (chain_at ds i).count ≡ n = ap (λ (c : Chain). c.count) b ∙ fc in
-                ap (λ (c : Chain). c.last) b ∙ fl ∙ ap (λ (k : ℕ). k - 1) (sym c) ∙ sym (at i ((chain_at ds i).count - 1) (omega arith))),
-            (
-              omega (arith, sum_by-cons (λ (c : Chain). c.count) f (replicate s no_chain), none_sum s, fc),
-              (
-                en ∙ ap (λ (k : ℕ). k * r + v) (sym (ap (λ (k : ℕ). k - 1) ek ∙ z)),
-                (
-                  sym (ap (λ (ls : List (List Notice)). in_use r ls) (fresh_lists ps ds f s refl) ∙ empty_in_use r s),
-                  (omega arith, (omega (arith, lists_long ps ds, length-replicate s no_chain), (omega arith, (hr, (hv, tt))))),
-                ),
-              ),
-            ),
-          ),
-        ),
-      ),
-    )
+    subst (λ (cs : List Chain). Holds ps n cs k 0 r v) (sym e) (record {
+      inside = λ i k lt. omega (arith, at i k lt, count i k lt, l, len);
+      apart = λ p q w. only_first f s p.0 p.1 w.0 ∙ sym (only_first f s q.0 q.1 w.1);
+      once = λ i q w. sym (at i q.0 w.0) ∙ w.2 ∙ at i q.1 w.1;
+      ends = λ i p.
+          let b = ap (λ (i : ℕ). chain_at ds i) (only_first f s i 0 p) in
+          let c : (chain_at ds i).count ≡ n = ap (λ (c : Chain). c.count) b ∙ fc in
+          ap (λ (c : Chain). c.last) b ∙ fl ∙ ap (λ (k : ℕ). k - 1) (sym c) ∙ sym (at i ((chain_at ds i).count - 1) (omega arith));
+      whole = omega (arith, sum_by-cons (λ (c : Chain). c.count) f (replicate s no_chain), none_sum s, fc);
+      sized = en ∙ ap (λ (k : ℕ). k * r + v) (sym (ap (λ (k : ℕ). k - 1) ek ∙ z));
+      tally = sym (ap (λ (ls : List (List Notice)). in_use r ls) (fresh_lists ps ds f s refl) ∙ empty_in_use r s);
+      within = omega arith;
+      counted = omega (arith, lists_long ps ds, length-replicate s no_chain);
+      few = omega arith;
+      small = hr;
+      scarce = hv;
+    })

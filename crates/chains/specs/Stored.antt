@@ -144,20 +144,20 @@ module _ (s : Chains) (f t : ℕ) (r : Ready (links s) (chains s) f t) where
 
 -- what holds of the parts of a store: places ps, n of them, chains cs, k of them, u of the spare v in use, reserve r
 abbrev pub Holds : List Place → ℕ → List Chain → ℕ → ℕ → ℕ → ℕ → Type 0
-Holds ps n cs k u r v =
-    Inside (links_of ps) cs
-    × (Apart (links_of ps) cs
-    × (Once (links_of ps) cs
-    × (Ends (links_of ps) cs
-    × ((sum cs ≡ n)
-    × ((n ≡ (k - 1) * r + v)
-    × ((u ≡ in_use r (chain_lists ps cs))
-    × ((u ≤ v)
-    × ((k ≡ length (chain_lists ps cs) + 1)
-    × ((k ≤ 65)
-    × ((r ≤ 9)
-    × ((v ≤ 32)
-    × Unit {0})))))))))))
+Holds ps n cs k u r v = record {
+  inside : Inside (links_of ps) cs;
+  apart : Apart (links_of ps) cs;
+  once : Once (links_of ps) cs;
+  ends : Ends (links_of ps) cs;
+  whole : sum cs ≡ n;
+  sized : n ≡ (k - 1) * r + v;
+  tally : u ≡ in_use r (chain_lists ps cs);
+  within : u ≤ v;
+  counted : k ≡ length (chain_lists ps cs) + 1;
+  few : k ≤ 65;
+  small : r ≤ 9;
+  scarce : v ≤ 32;
+}
 
 over : (P : List ℕ → List Chain → Type 0) (nx ny : List ℕ) (cs ds : List Chain) → ny ≡ nx → ds ≡ cs → P nx cs → P ny ds
 over P nx ny cs ds p q h = subst (λ (xs : List ℕ). P xs ds) (sym p) (subst (λ (xs : List Chain). P nx xs) (sym q) h)
@@ -167,25 +167,21 @@ pub moved_holds : (s : Chains) (f t : ℕ) (ps : List Place) (n : ℕ) (ds : Lis
     u ≡ in_use s.reserve (chain_lists ps ds) → u ≤ s.spare → Holds ps n ds k u s.reserve s.spare
 moved_holds s f t ps n ds k u r p q e g w l =
     let nx = links s in
-    let cs = chains s in (
-      over Inside (moved_links nx cs f t) (links_of ps) (moved_chains nx cs f t) ds p q (moved_inside nx cs f t r),
-      (
-        over Apart (moved_links nx cs f t) (links_of ps) (moved_chains nx cs f t) ds p q (moved_apart nx cs f t r),
-        (
-          over Once (moved_links nx cs f t) (links_of ps) (moved_chains nx cs f t) ds p q (moved_once nx cs f t r),
-          (
-            over Ends (moved_links nx cs f t) (links_of ps) (moved_chains nx cs f t) ds p q (moved_ends nx cs f t r),
-            (
-              ap sum q ∙ (moved_sum nx cs f t r).0 ∙ s.whole ∙ sym e,
-              (
-                e ∙ s.sized ∙ ap (λ (k : ℕ). (k - 1) * s.reserve + s.spare) (sym g),
-                (w, (l, (omega (arith, lists_long ps ds, ap length q, moved_long nx cs f t, s.chains.ok.0, s.counted), (omega (arith, s.few), (s.small, (s.scarce, tt)))))),
-              ),
-            ),
-          ),
-        ),
-      ),
-    )
+    let cs = chains s in
+    record {
+      inside = over Inside (moved_links nx cs f t) (links_of ps) (moved_chains nx cs f t) ds p q (moved_inside nx cs f t r);
+      apart = over Apart (moved_links nx cs f t) (links_of ps) (moved_chains nx cs f t) ds p q (moved_apart nx cs f t r);
+      once = over Once (moved_links nx cs f t) (links_of ps) (moved_chains nx cs f t) ds p q (moved_once nx cs f t r);
+      ends = over Ends (moved_links nx cs f t) (links_of ps) (moved_chains nx cs f t) ds p q (moved_ends nx cs f t r);
+      whole = ap sum q ∙ (moved_sum nx cs f t r).0 ∙ s.whole ∙ sym e;
+      sized = e ∙ s.sized ∙ ap (λ (k : ℕ). (k - 1) * s.reserve + s.spare) (sym g);
+      tally = w;
+      within = l;
+      counted = omega (arith, lists_long ps ds, ap length q, moved_long nx cs f t, s.chains.ok.0, s.counted);
+      few = omega (arith, s.few);
+      small = s.small;
+      scarce = s.scarce;
+    }
 
 -- a notice written on a place whose link stays
 abbrev pub noted : List Place → ℕ → Notice → Place → List Place

@@ -1,7 +1,7 @@
 -- The walk over the items of a request reads the grammar, and nothing else. Assumes nothing.
 use Rattle.std.proofs.Common.{◌≡◌, ℕ, zero, suc, ◌-◌, ◌<◌, Bool, true, false, cond, List, [], ◌∷◌, ◌++◌, map, length, get_or, take, drop, Ok, Err, Result, sym, refl, ap, ◌∙◌, subst, arith, take-append-drop}
 use Rattle.std.proofs.lemmas.List.{drop_at, drop_all}
-use Rattle.std.specs.List.{AllByRecursion as All}
+use Rattle.std.specs.List.{AllByRecursion}
 use Rattle.ipp.specs.declared.attributes.Fault.{Fault}
 use Rattle.ipp.specs.declared.attributes.Fault.TheVariants.{StrayValue}
 use Rattle.ipp.specs.Items.{Piece, mark, attribute, further, end, next_item}
@@ -35,7 +35,7 @@ found_more : (xs : List ℕ) (at : ℕ) (p : Piece) (n : ℕ) → next_item xs a
 found_more xs at p n i h = ap (map plain) (items_step xs at _ i ∙ linked_is p (items_from xs n) h)
 
 -- the items of the grammar from a place on
-reads_from : (xs : List ℕ) (ws : List Written) (b : Bool) (at : ℕ) → drop at xs ≡ text ws → All WellFormed ws → InPlace b ws → (end_from xs (b, at) ≡ Ok (length xs)) × (found xs at ≡ ws)
+reads_from : (xs : List ℕ) (ws : List Written) (b : Bool) (at : ℕ) → drop at xs ≡ text ws → AllByRecursion WellFormed ws → InPlace b ws → (end_from xs (b, at) ≡ Ok (length xs)) × (found xs at ≡ ws)
 reads_from xs [] b at e h i =
     let a = end_stands xs at e in
     (walk_done xs b at _ (ap (stepped b) a.0) ∙ ap Ok a.1, ap (map plain) (items_step xs at _ a.0))
@@ -54,13 +54,13 @@ reads head ws l h i = reads_from (head ++ text ws) ws false 8 (drop_at head (tex
 
 -- what stands from a place on is of the grammar
 Told : List ℕ → Bool → ℕ → Type 0
-Told xs b at = (drop at xs ≡ text (found xs at)) × All WellFormed (found xs at) × InPlace b (found xs at)
+Told xs b at = (drop at xs ≡ text (found xs at)) × AllByRecursion WellFormed (found xs at) × InPlace b (found xs at)
 
 module _ (xs : List ℕ) (byte : (i : ℕ) → get_or xs i 0 < 256) where
   -- by the items that are found there
-  told_by : (b : Bool) (at : ℕ) (ws : List Written) → found xs at ≡ ws → drop at xs ≡ text ws → All WellFormed ws → InPlace b ws → Told xs b at
+  told_by : (b : Bool) (at : ℕ) (ws : List Written) → found xs at ≡ ws → drop at xs ≡ text ws → AllByRecursion WellFormed ws → InPlace b ws → Told xs b at
   unfolding Told
-  told_by b at ws e d h i = subst (λ us. (drop at xs ≡ text us) × All WellFormed us × InPlace b us) (sym e) (d, h, i)
+  told_by b at ws e d h i = subst (λ us. (drop at xs ≡ text us) × AllByRecursion WellFormed us × InPlace b us) (sym e) (d, h, i)
 
   -- an item before what is of the grammar
   told_more : (b c : Bool) (at : ℕ) (p : Piece) (n : ℕ) → next_item xs at ≡ Ok (p, n) → (p ≡ end → ⊥) → (InPlace c (found xs n) → InPlace b (plain p ∷ found xs n)) → Told xs c n → Told xs b at

@@ -1,6 +1,6 @@
 -- The grammar of a request's items, written down apart from the reader; the reader accepts it, and nothing else. Assumes nothing.
 use Rattle.std.specs.Prelude.{◌≡◌, ℕ, ◌/◌, ◌%◌, ◌<◌, ◌≤◌, Bool, true, false, List, [], ◌∷◌, ◌++◌, map, length, take, Ok, ◌≢◌, slice_index, refl}
-use Rattle.std.specs.List.{AllByRecursion as All}
+use Rattle.std.specs.List.{AllByRecursion}
 use Rattle.ipp.specs.Items.{Piece, mark, attribute, further, end}
 use Rattle.ipp.specs.Walk.{end_from, items_from}
 
@@ -52,14 +52,14 @@ found xs at = map plain (items_from xs at)
 -- what is written by the grammar behind the 8 bytes of the head is accepted to its last byte, and read back
 abbrev pub Reads : Type 0
 Reads =
-    (head : List ℕ) (ws : List Written) → length head ≡ 8 → All WellFormed ws → InPlace false ws
+    (head : List ℕ) (ws : List Written) → length head ≡ 8 → AllByRecursion WellFormed ws → InPlace false ws
     → (end_from (head ++ text ws) (false, 8) ≡ Ok (length (head ++ text ws))) × (found (head ++ text ws) 8 ≡ ws)
 
 -- and bytes that are accepted to the last one are a head and what is written by the grammar
 abbrev pub Only : Type 0
 Only =
     (xs : List ℕ) → ((i : ℕ) → slice_index xs i < 256) → end_from xs (false, 8) ≡ Ok (length xs)
-    → (xs ≡ take 8 xs ++ text (found xs 8)) × All WellFormed (found xs 8) × InPlace false (found xs 8)
+    → (xs ≡ take 8 xs ++ text (found xs 8)) × AllByRecursion WellFormed (found xs 8) × InPlace false (found xs 8)
 
 -- a tag 0x47, the name "hi", the value 7
 example : spelled (named 0x47 (104 ∷ 105 ∷ []) (7 ∷ [])) ≡ 0x47 ∷ 0 ∷ 2 ∷ 104 ∷ 105 ∷ 0 ∷ 1 ∷ 7 ∷ []

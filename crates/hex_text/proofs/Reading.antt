@@ -3,7 +3,7 @@ use Rattle.std.proofs.Common.{◌≡◌, ℕ, ◌+◌, ◌*◌, ◌/◌, ◌%◌
 use Rattle.std.proofs.lemmas.List.{append_assoc, append-nil, at_drop_more, at_drop_all, drop_more, drop_all}
 use Rattle.std.proofs.lemmas.Bool.{le-leb}
 use Rattle.std.proofs.lemmas.Bool.Decides.{nat_tests, leb_tells}
-use Rattle.std.specs.List.{AllByRecursion as All}
+use Rattle.std.specs.List.{AllByRecursion}
 use Rattle.hex_text.specs.declared.HexFault.{HexFault}
 use Rattle.hex_text.specs.declared.HexFault.TheVariants.{Digit, Odd, Memory}
 use Rattle.hex_text.specs.Hex.{digit_of, then, byte_of, fault_alone, bytes_of, byte_at, Says, char_of, text_of}
@@ -65,7 +65,7 @@ module _ (xs : List ℕ) (at : ℕ) where
 digit_back : (n : ℕ) → n < 16 → digit_of (char_of n) ≡ Ok n
 digit_back n h = grind (arith, nat_tests)
 
-pub reads_back : (bs : List ℕ) → All (λ b. b < 256) bs → bytes_of (text_of bs) ≡ Ok bs
+pub reads_back : (bs : List ℕ) → AllByRecursion (λ b. b < 256) bs → bytes_of (text_of bs) ≡ Ok bs
 reads_back [] h = refl
 reads_back (b ∷ bs) h =
     let whole : b / 16 * 16 + b % 16 ≡ b = omega arith in

@@ -1,6 +1,6 @@
 -- Hexadecimal text and the bytes that it stands for. Assumes nothing.
 use Rattle.std.specs.Prelude.{◌≡◌, ℕ, ◌+◌, ◌-◌, ◌*◌, ◌/◌, ◌%◌, ◌<◌, Bool, cond, ◌&&◌, List, [], ◌∷◌, length, Ok, Err, vec_items, Result, Vec, nat_le, nat_lt, slice_index}
-use Rattle.std.specs.List.{AllByRecursion as All}
+use Rattle.std.specs.List.{AllByRecursion}
 use Rattle.std.specs.declared.alloc.Global.{Global}
 use Rattle.hex_text.specs.declared.HexFault.{HexFault}
 use Rattle.hex_text.specs.declared.HexFault.TheVariants.{Digit, Odd, Memory}
@@ -49,4 +49,4 @@ text_of [] = []
 text_of (b ∷ bs) = char_of (b / 16) ∷ char_of (b % 16) ∷ text_of bs
 
 abbrev pub ReadsBack : Type 0
-ReadsBack = (bs : List ℕ) → All (λ b. b < 256) bs → bytes_of (text_of bs) ≡ Ok bs
+ReadsBack = (bs : List ℕ) → AllByRecursion (λ b. b < 256) bs → bytes_of (text_of bs) ≡ Ok bs

@@ -2,7 +2,7 @@
 use Rattle.std.proofs.Common.{◌≡◌, ℕ, suc, ◌≤◌, Bool, true, false, not, ◌&&◌, ◌||◌, eqb, leb, ◌≢◌, List, [], ◌∷◌, map, length, is_ok, Ok, Err, Result, sym, refl, ap, ◌∙◌, subst, arith}
 use Rattle.std.proofs.lemmas.Bool.{and_parts, leb-true}
 use Rattle.std.proofs.lemmas.Bool.Decides.{nat_tests}
-use Rattle.std.specs.List.{AllByRecursion as All}
+use Rattle.std.specs.List.{AllByRecursion}
 use Rattle.ipp.specs.declared.attributes.Fault as mid
 use Rattle.ipp.specs.Attributes.{Tagged, Named, distinct_names}
 use Rattle.ipp.specs.Conditions.{all, distinct_numbers, number_in, or_zero}
@@ -51,7 +51,7 @@ asks_length : (vs ns : List Tagged) → length (asks vs ns) ≡ length vs
 asks_length [] ns = refl
 asks_length (v ∷ vs) ns = ap suc (asks_length vs (rest ns))
 
-ids_positive : (vs ns : List Tagged) → all_from_one vs ≡ true → All (λ (a : Asked). Positive a.id) (asks vs ns)
+ids_positive : (vs ns : List Tagged) → all_from_one vs ≡ true → AllByRecursion (λ (a : Asked). Positive a.id) (asks vs ns)
 ids_positive [] ns h = tt
 ids_positive (v ∷ vs) ns h =
     let p = and_parts _ _ h in
@@ -65,14 +65,14 @@ lowest_positive : (ns : List Tagged) → all_from_one ns ≡ true → Positive (
 lowest_positive [] h = (omega arith, omega arith)
 lowest_positive (n ∷ ns) h = positive_number n.1 (and_parts _ _ h).0
 
-lows_positive : (vs ns : List Tagged) → all_from_one ns ≡ true → All (λ (a : Asked). Positive a.lowest) (asks vs ns)
+lows_positive : (vs ns : List Tagged) → all_from_one ns ≡ true → AllByRecursion (λ (a : Asked). Positive a.lowest) (asks vs ns)
 lows_positive [] ns h = tt
 lows_positive (v ∷ vs) ns h = (lowest_positive ns h, lows_positive vs (rest ns) (rest_from_one ns h))
 
 differs : (m n : ℕ) → not (eqb m n) ≡ true → m ≢ n
 differs m n h e = grind (arith, nat_tests)
 
-others : (n : ℕ) (vs ns : List Tagged) → all (λ w. not (eqb (number_in w.1) n)) vs ≡ true → All (λ m. m ≢ n) (map (λ (a : Asked). a.id) (asks vs ns))
+others : (n : ℕ) (vs ns : List Tagged) → all (λ w. not (eqb (number_in w.1) n)) vs ≡ true → AllByRecursion (λ m. m ≢ n) (map (λ (a : Asked). a.id) (asks vs ns))
 others n [] ns h = tt
 others n (v ∷ vs) ns h =
     let p = and_parts _ _ h in

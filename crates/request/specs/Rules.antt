@@ -1,5 +1,5 @@
 -- The rules on the attributes of the operation group. Assumes nothing.
-use Rattle.std.specs.Prelude.{ℕ, Bool, true, false, cond, not, ◌&&◌, List, [], ◌∷◌, is_ok, Ok, Err, codes, Result, ◌==◌, nat_eq}
+use Rattle.std.specs.Prelude.{ℕ, Bool, true, false, cond, ◌&&◌, List, [], ◌∷◌, is_ok, Ok, Err, codes, Result, ◌==◌, nat_eq}
 use Rattle.std.specs.Str.{bytes_eq}
 use Rattle.request.specs.declared.Fault.{Fault}
 use Rattle.request.specs.declared.Fault.TheVariants.{NameTwice, FirstTwo, PrinterUri, SubscriptionIds, SequenceNumbers, Wait, FurtherValues}

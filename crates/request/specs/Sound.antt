@@ -1,13 +1,13 @@
 -- What holds of every request that is accepted. Assumes nothing.
 use Rattle.std.specs.Prelude.{◌≡◌, ℕ, ◌≤◌, ◌≢◌, List, [], ◌∷◌, map, length, Ok}
-use Rattle.std.specs.List.{AllByRecursion as All}
+use Rattle.std.specs.List.{AllByRecursion}
 use Rattle.request.specs.Answer.{answer_of}
 use Rattle.request.specs.Request.{Wish}
 
 -- no two are the same
 abbrev pub Distinct : List ℕ → Type 0
 Distinct [] = Unit {0}
-Distinct (n ∷ ns) = All (λ m. m ≢ n) ns × Distinct ns
+Distinct (n ∷ ns) = AllByRecursion (λ m. m ≢ n) ns × Distinct ns
 
 -- 1 to 0x7FFFFFFF
 abbrev pub Positive : ℕ → Type 0
@@ -16,8 +16,8 @@ Positive n = (1 ≤ n) × (n ≤ 0x7FFFFFFF)
 pub record Sound (w : Wish) : Type 0 where
   pub some : 1 ≤ length w.asked
   pub few : length w.asked ≤ 8
-  pub ids : All (λ a. Positive a.id) w.asked
-  pub lows : All (λ a. Positive a.lowest) w.asked
+  pub ids : AllByRecursion (λ a. Positive a.id) w.asked
+  pub lows : AllByRecursion (λ a. Positive a.lowest) w.asked
   pub distinct : Distinct (map (λ a. a.id) w.asked)
   pub id : Positive w.header.id
 

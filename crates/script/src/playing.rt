@@ -9,10 +9,10 @@ use store::NoticeStore;
 // Takes the steps in their order, and adds what each answers to `seen`.
 fn play_into<S: NoticeStore>(store: &mut S, steps: &[Step], seen: &mut Vec<Seen>)
     requires { vec_len seen.old + length steps.now ≤ vec_capacity seen.old }
-    ensures seen { seen.new.items ≡ seen.old.items ++ seen_all (reserve store.old) (spare store.old) (lists store.old) steps.now }
-    ensures lists { lists store.new ≡ lists_after_all (reserve store.old) (spare store.old) (lists store.old) steps.now }
-    ensures reserve { reserve store.new ≡ reserve store.old }
-    ensures spare { spare store.new ≡ spare store.old }
+    ensures seen { seen.new.items ≡ seen.old.items ++ seen_all (S.reserve store.old) (S.spare store.old) (S.lists store.old) steps.now }
+    ensures lists { S.lists store.new ≡ lists_after_all (S.reserve store.old) (S.spare store.old) (S.lists store.old) steps.now }
+    ensures reserve { S.reserve store.new ≡ S.reserve store.old }
+    ensures spare { S.spare store.new ≡ S.spare store.old }
 {
     for step in steps {
         seen.push_reserved(take_step(store, *step));
@@ -25,10 +25,10 @@ pub fn play<S: NoticeStore>(
     store: &mut S,
     steps: &[Step],
 ) -> Result<Vec<Seen>, AllocError>
-    ensures seen { IfOk result (λ v. v.items ≡ seen_all (reserve store.old) (spare store.old) (lists store.old) steps.now) }
-    ensures lists { lists store.new ≡ (if is_ok result then lists_after_all (reserve store.old) (spare store.old) (lists store.old) steps.now else lists store.old) }
-    ensures reserve { reserve store.new ≡ reserve store.old }
-    ensures spare { spare store.new ≡ spare store.old }
+    ensures seen { IfOk result (λ v. v.items ≡ seen_all (S.reserve store.old) (S.spare store.old) (S.lists store.old) steps.now) }
+    ensures lists { S.lists store.new ≡ (if is_ok result then lists_after_all (S.reserve store.old) (S.spare store.old) (S.lists store.old) steps.now else S.lists store.old) }
+    ensures reserve { S.reserve store.new ≡ S.reserve store.old }
+    ensures spare { S.spare store.new ≡ S.spare store.old }
 {
     let mut seen = Vec::with_capacity(heap, steps.len())?;
     play_into(store, steps, &mut seen);
@@ -43,13 +43,13 @@ pub fn play_both<S: NoticeStore, T: NoticeStore>(
     second: &mut T,
     steps: &[Step],
 ) -> Result<(Vec<Seen>, Vec<Seen>), AllocError>
-    ensures first_seen { IfOk result (λ p. p.0.items ≡ seen_all (S.NoticeStore.reserve first.old) (S.NoticeStore.spare first.old) (S.NoticeStore.lists first.old) steps.now) }
-    ensures second_seen { IfOk result (λ p. p.1.items ≡ seen_all (T.NoticeStore.reserve second.old) (T.NoticeStore.spare second.old) (T.NoticeStore.lists second.old) steps.now) }
-    ensures first_lists { S.NoticeStore.lists first.new ≡ (if is_ok result then lists_after_all (S.NoticeStore.reserve first.old) (S.NoticeStore.spare first.old) (S.NoticeStore.lists first.old) steps.now else S.NoticeStore.lists first.old) }
-    ensures second_lists { T.NoticeStore.lists second.new ≡ (if is_ok result then lists_after_all (T.NoticeStore.reserve second.old) (T.NoticeStore.spare second.old) (T.NoticeStore.lists second.old) steps.now else T.NoticeStore.lists second.old) }
-    ensures first_sizes { (S.NoticeStore.reserve first.new ≡ S.NoticeStore.reserve first.old) × (S.NoticeStore.spare first.new ≡ S.NoticeStore.spare first.old) }
-    ensures second_sizes { (T.NoticeStore.reserve second.new ≡ T.NoticeStore.reserve second.old) × (T.NoticeStore.spare second.new ≡ T.NoticeStore.spare second.old) }
-    ensures alike { Agree (S.NoticeStore.reserve first.old) (S.NoticeStore.spare first.old) (S.NoticeStore.lists first.old) (T.NoticeStore.reserve second.old) (T.NoticeStore.spare second.old) (T.NoticeStore.lists second.old) → IfOk result (λ p. p.0.items ≡ p.1.items) × Agree (S.NoticeStore.reserve first.new) (S.NoticeStore.spare first.new) (S.NoticeStore.lists first.new) (T.NoticeStore.reserve second.new) (T.NoticeStore.spare second.new) (T.NoticeStore.lists second.new) }
+    ensures first_seen { IfOk result (λ p. p.0.items ≡ seen_all (S.reserve first.old) (S.spare first.old) (S.lists first.old) steps.now) }
+    ensures second_seen { IfOk result (λ p. p.1.items ≡ seen_all (T.reserve second.old) (T.spare second.old) (T.lists second.old) steps.now) }
+    ensures first_lists { S.lists first.new ≡ (if is_ok result then lists_after_all (S.reserve first.old) (S.spare first.old) (S.lists first.old) steps.now else S.lists first.old) }
+    ensures second_lists { T.lists second.new ≡ (if is_ok result then lists_after_all (T.reserve second.old) (T.spare second.old) (T.lists second.old) steps.now else T.lists second.old) }
+    ensures first_sizes { (S.reserve first.new ≡ S.reserve first.old) × (S.spare first.new ≡ S.spare first.old) }
+    ensures second_sizes { (T.reserve second.new ≡ T.reserve second.old) × (T.spare second.new ≡ T.spare second.old) }
+    ensures alike { Agree (S.reserve first.old) (S.spare first.old) (S.lists first.old) (T.reserve second.old) (T.spare second.old) (T.lists second.old) → IfOk result (λ p. p.0.items ≡ p.1.items) × Agree (S.reserve first.new) (S.spare first.new) (S.lists first.new) (T.reserve second.new) (T.spare second.new) (T.lists second.new) }
 {
     let mut seen_first = Vec::with_capacity(heap, steps.len())?;
     let mut seen_second = Vec::with_capacity(heap, steps.len())?;

@@ -26,10 +26,10 @@ pub enum Seen {
 }
 
 pub fn take_step<S: NoticeStore>(store: &mut S, step: Step) -> Seen
-    ensures seen { result ≡ seen_at (reserve store.old) (spare store.old) (lists store.old) step }
-    ensures lists { lists store.new ≡ lists_after (reserve store.old) (spare store.old) (lists store.old) step }
-    ensures reserve { reserve store.new ≡ reserve store.old }
-    ensures spare { spare store.new ≡ spare store.old }
+    ensures seen { result ≡ seen_at (S.reserve store.old) (S.spare store.old) (S.lists store.old) step }
+    ensures lists { S.lists store.new ≡ lists_after (S.reserve store.old) (S.spare store.old) (S.lists store.old) step }
+    ensures reserve { S.reserve store.new ≡ S.reserve store.old }
+    ensures spare { S.spare store.new ≡ S.spare store.old }
 {
     match step {
         Step::Put { slot, notice } => {

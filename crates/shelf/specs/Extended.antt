@@ -1,7 +1,7 @@
 -- The lists of a store with what waits for each slot behind them, after each change of the store or of the entries.
 use Rattle.std.specs.Prelude.{◌≡◌, ℕ, ◌+◌, ◌<◌, ◌≤◌, ◌≢◌, List, [], ◌∷◌, ◌++◌, length, take, drop, slice_index_or, slice_set, refl}
 use Rattle.std.proofs.Common.{sym, ap, ◌∙◌, inl, inr, arith}
-use Rattle.std.specs.List.{remove, AllByRecursion as All}
+use Rattle.std.specs.List.{remove, AllByRecursion}
 use Rattle.std.proofs.lemmas.List.FromFn.{length-map-range_with_len, get_or-map-range_with_len, fill_by_all}
 use Rattle.std.proofs.ByRecursion.{All-weaker}
 use Rattle.std.proofs.lemmas.List.{append_assoc, append-nil, drop-append-le, ext_get_or, get_or_past, get_or-set_same, get_or-set_other, length-set, nil_from_length, set_past}
@@ -152,7 +152,7 @@ in_use_most r ls (e ∷ es) =
     ]
 
 -- and just one where its slot holds the reserve or more in the store
-pub in_use_all : (r : ℕ) (ls : List (List Notice)) (es : List Entry) → All (λ e. (e.slot < length ls) × (r ≤ length (held ls e.slot))) es → in_use r (extended ls es) ≡ in_use r ls + length es
+pub in_use_all : (r : ℕ) (ls : List (List Notice)) (es : List Entry) → AllByRecursion (λ e. (e.slot < length ls) × (r ≤ length (held ls e.slot))) es → in_use r (extended ls es) ≡ in_use r ls + length es
 in_use_all r ls [] f = omega (arith, ap (λ (ms : List (List Notice)). in_use r ms) (extended_none ls))
 in_use_all r ls (e ∷ es) f =
     let i = e.slot in

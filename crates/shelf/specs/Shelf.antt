@@ -1,6 +1,6 @@
 -- What a shelf means. It stands over another store and holds entries, each a notice with the slot that it waits for, in the order in which they came.
 use Rattle.std.specs.Prelude.{◌≡◌, ℕ, ◌-◌, min, Bool, false, not, ◌&&◌, ◌||◌, List, ◌++◌, map, length, take, filter, ◌==◌, nat_le}
-use Rattle.std.specs.List.{remove, range_with_len, prefix_len, AllByRecursion as All}
+use Rattle.std.specs.List.{remove, range_with_len, prefix_len, AllByRecursion}
 use Rattle.notice.specs.declared.event.Notice.{Notice}
 use Rattle.store.specs.Meaning.{held, full}
 use Rattle.shelf.specs.declared.entry.Entry.{Entry}
@@ -52,4 +52,4 @@ may_leave r v lists slot = nat_le (length lists) slot || not (full r v lists slo
 
 -- no entry may leave
 abbrev pub Stuck : ℕ → ℕ → List (List Notice) → List Entry → Type 0
-Stuck r v lists entries = All (λ e. may_leave r v lists e.slot ≡ false) entries
+Stuck r v lists entries = AllByRecursion (λ e. may_leave r v lists e.slot ≡ false) entries

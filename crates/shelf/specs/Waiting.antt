@@ -1,7 +1,7 @@
 -- What waits for a slot, after each change of the entries.
 use Rattle.std.specs.Prelude.{◌≡◌, ℕ, suc, ◌<◌, ◌≤◌, ◌≢◌, List, [], ◌∷◌, ◌++◌, map, length, take, drop, filter, slice_index_or, refl}
 use Rattle.std.proofs.Common.{sym, ap, subst, ◌∙◌, inl, inr, arith, one-add, drop-cons}
-use Rattle.std.specs.List.{remove, AllByRecursion as All}
+use Rattle.std.specs.List.{remove, AllByRecursion}
 use Rattle.std.proofs.lemmas.List.Elements.{filter-append}
 use Rattle.std.proofs.lemmas.List.{append-nil, drop_all, map-append, take_all, take-append-drop}
 use Rattle.std.proofs.lemmas.Bool.{eq-eqb, ne_eqb, cases_eq}
@@ -25,12 +25,12 @@ waiting_tail e es fs i h =
     waiting_append (e ∷ []) es i ∙ ap (λ (ns : List Notice). waiting (e ∷ []) i ++ ns) h ∙ sym (waiting_append (e ∷ []) fs i)
 
 -- nothing waits for a slot that no entry is for
-pub none_waits : (es : List Entry) (i : ℕ) → All (λ e. e.slot ≢ i) es → waiting es i ≡ []
+pub none_waits : (es : List Entry) (i : ℕ) → AllByRecursion (λ e. e.slot ≢ i) es → waiting es i ≡ []
 none_waits [] i h = refl
 none_waits (e ∷ es) i h = waiting_other e es i h.0 ∙ none_waits es i h.1
 
 -- what holds of the slot of every entry holds of a slot that something waits for
-pub all_that_wait : (P : ℕ → Type 0) (es : List Entry) (i : ℕ) → All (λ e. P e.slot) es → 0 < length (waiting es i) → P i
+pub all_that_wait : (P : ℕ → Type 0) (es : List Entry) (i : ℕ) → AllByRecursion (λ e. P e.slot) es → 0 < length (waiting es i) → P i
 all_that_wait P [] i h w = absurd (omega arith)
 all_that_wait P (e ∷ es) i h w =
     elim (cases_eq e.slot i) [

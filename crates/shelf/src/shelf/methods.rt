@@ -23,7 +23,7 @@ fn places_over(size: usize, spare: usize) -> usize
 impl<S: NoticeStore> Shelf<S> {
     // The entries that count.
     fn counted(&self) -> &[Entry]
-        ensures { result.now ≡ take (places self.now.size (spare self.now.lower)) self.now.entries.items }
+        ensures { result.now ≡ take (places self.now.size (S.spare self.now.lower)) self.now.entries.items }
     {
         let limit = places_over(self.size, self.lower.spare_size());
         let all = self.entries.as_slice();
@@ -35,19 +35,19 @@ impl<S: NoticeStore> Shelf<S> {
 
     // Whether the lower store holds nothing for a slot.
     fn none_below(&self, slot: usize) -> bool
-        ensures { result ≡ (length (held (lists self.now.lower) slot) == 0) }
+        ensures { result ≡ (length (held (S.lists self.now.lower) slot) == 0) }
     {
         self.lower.len(slot) == 0
     }
 
     // Takes off the entries that do not count, and says how many may stand. No list changes by it.
     fn trim(&mut self) -> usize
-        ensures limit { result ≡ places self.old.size (spare self.old.lower) }
+        ensures limit { result ≡ places self.old.size (S.spare self.old.lower) }
         ensures entries { self.new.entries.items ≡ take result self.old.entries.items }
         ensures len { vec_len self.new.entries ≤ result }
         ensures lower { self.new.lower ≡ self.old.lower }
         ensures size { self.new.size ≡ self.old.size }
-        ensures lists { extended (lists self.new.lower) self.new.entries.items ≡ shelf_lists (lists self.old.lower) self.old.size (spare self.old.lower) self.old.entries.items }
+        ensures lists { extended (S.lists self.new.lower) self.new.entries.items ≡ shelf_lists (S.lists self.old.lower) self.old.size (S.spare self.old.lower) self.old.entries.items }
     {
         let limit = places_over(self.size, self.lower.spare_size());
         self.entries.truncate(limit);
@@ -56,21 +56,21 @@ impl<S: NoticeStore> Shelf<S> {
 }
 
 impl<S: NoticeStore> NoticeStore for Shelf<S> {
-    ghost lists = { λ s. shelf_lists (S.NoticeStore.lists s.lower) s.size (S.NoticeStore.spare s.lower) s.entries.items };
+    ghost lists = { λ s. shelf_lists (S.lists s.lower) s.size (S.spare s.lower) s.entries.items };
 
-    ghost reserve = { λ s. S.NoticeStore.reserve s.lower };
+    ghost reserve = { λ s. S.reserve s.lower };
 
-    ghost spare = { λ s. S.NoticeStore.spare s.lower + places s.size (S.NoticeStore.spare s.lower) };
+    ghost spare = { λ s. S.spare s.lower + places s.size (S.spare s.lower) };
 
-    ghost slots_bound = { λ s. omega (arith, length_extended (S.NoticeStore.lists s.lower) (take (places s.size (S.NoticeStore.spare s.lower)) s.entries.items), S.NoticeStore.slots_bound s.lower) };
+    ghost slots_bound = { λ s. omega (arith, length_extended (S.lists s.lower) (take (places s.size (S.spare s.lower)) s.entries.items), S.slots_bound s.lower) };
 
     ghost reserve_bound = { first_of (Prim.search rules, Prim.grind (arith, Self.row.coded.inj)) };
 
     ghost spare_bound = { first_of (Prim.search rules, Prim.grind (arith, Self.row.coded.inj)) };
 
     ghost in_use_bound = { λ s.
-        let p = places s.size (S.NoticeStore.spare s.lower) in
-        omega (arith, in_use_most (S.NoticeStore.reserve s.lower) (S.NoticeStore.lists s.lower) (take p s.entries.items), S.NoticeStore.in_use_bound s.lower, length-take p s.entries.items) };
+        let p = places s.size (S.spare s.lower) in
+        omega (arith, in_use_most (S.reserve s.lower) (S.lists s.lower) (take p s.entries.items), S.in_use_bound s.lower, length-take p s.entries.items) };
 
     fn slots(&self) -> usize {
         self.lower.slots()

@@ -15,10 +15,10 @@ pub fn put_below<S: NoticeStore>(
     slot: usize,
     notice: Notice,
 ) -> bool
-    ensures taken { result ≡ goes_below (reserve lower.old) (spare lower.old) (lists lower.old) entries.now slot }
-    ensures lists { lists lower.new ≡ (if result then put_at (lists lower.old) slot notice else lists lower.old) }
-    ensures reserve { reserve lower.new ≡ reserve lower.old }
-    ensures spare { spare lower.new ≡ spare lower.old }
+    ensures taken { result ≡ goes_below (S.reserve lower.old) (S.spare lower.old) (S.lists lower.old) entries.now slot }
+    ensures lists { S.lists lower.new ≡ (if result then put_at (S.lists lower.old) slot notice else S.lists lower.old) }
+    ensures reserve { S.reserve lower.new ≡ S.reserve lower.old }
+    ensures spare { S.spare lower.new ≡ S.spare lower.old }
 {
     if count_of(entries, slot) > 0 {
         return false;
@@ -29,10 +29,10 @@ pub fn put_below<S: NoticeStore>(
 // Puts the notice of an entry into the lower store, and says whether the entry may leave. One for
 // a slot that the store lacks may leave too: it is in no list.
 fn move_down<S: NoticeStore>(lower: &mut S, e: Entry) -> bool
-    ensures taken { result ≡ may_leave (reserve lower.old) (spare lower.old) (lists lower.old) e.slot }
-    ensures lists { lists lower.new ≡ (if result then put_at (lists lower.old) e.slot e.notice else lists lower.old) }
-    ensures reserve { reserve lower.new ≡ reserve lower.old }
-    ensures spare { spare lower.new ≡ spare lower.old }
+    ensures taken { result ≡ may_leave (S.reserve lower.old) (S.spare lower.old) (S.lists lower.old) e.slot }
+    ensures lists { S.lists lower.new ≡ (if result then put_at (S.lists lower.old) e.slot e.notice else S.lists lower.old) }
+    ensures reserve { S.reserve lower.new ≡ S.reserve lower.old }
+    ensures spare { S.spare lower.new ≡ S.spare lower.old }
 {
     if e.slot >= lower.slots() {
         return true;
@@ -44,11 +44,11 @@ fn move_down<S: NoticeStore>(lower: &mut S, e: Entry) -> bool
 // the first that may leave does; no list changes by it.
 pub fn make_room<S: NoticeStore>(lower: &mut S, entries: &mut Vec<Entry>, limit: usize) -> bool
     requires { vec_len entries.old ≤ limit }
-    ensures lists { extended (lists lower.new) entries.new.items ≡ extended (lists lower.old) entries.old.items }
-    ensures reserve { reserve lower.new ≡ reserve lower.old }
-    ensures spare { spare lower.new ≡ spare lower.old }
+    ensures lists { extended (S.lists lower.new) entries.new.items ≡ extended (S.lists lower.old) entries.old.items }
+    ensures reserve { S.reserve lower.new ≡ S.reserve lower.old }
+    ensures spare { S.spare lower.new ≡ S.spare lower.old }
     ensures capacity { vec_capacity entries.new ≡ vec_capacity entries.old }
-    ensures cases { MatchBool result (vec_len entries.new < limit) ((vec_len entries.new ≡ limit) × (vec_len entries.old ≡ limit) × Stuck (reserve lower.old) (spare lower.old) (lists lower.old) entries.old.items) }
+    ensures cases { MatchBool result (vec_len entries.new < limit) ((vec_len entries.new ≡ limit) × (vec_len entries.old ≡ limit) × Stuck (S.reserve lower.old) (S.spare lower.old) (S.lists lower.old) entries.old.items) }
 {
     if entries.len() < limit {
         return true;

@@ -13,5 +13,5 @@ loop-next-preserved c =
     let whole = asks (values_at xs c.args.ids) (values_at xs c.args.numbers) in
     let count = length (values_at xs c.args.ids) in
     gather_more ws (asked_in c.push.new.self) (tagged c.in-Some.value) _ _ ns _ _ _ whole count
-    c.if-not-push.ensures.fits c.if-not-push.ensures.items c.number.ensures c.lowest.ensures c.further-value-next.ensures.values c.behind-low.ensures
+    c.if-not-push.ensures.fits c.if-not-push.ensures.items c.number.ensures c.lowest.ensures c.further_value-next.ensures.values c.behind-low.ensures
     (subst (λ o. Gathers ws (values_at xs o) ns whole count) c.in-Some.is c.loop-next.invariant)

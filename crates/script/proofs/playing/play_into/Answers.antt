@@ -7,14 +7,14 @@ use Rattle.script.proofs.playing.play_into.Goals as goal
 pub loop-step-preserved : goal.loop-step-preserved
 loop-step-preserved g c =
     let inv = c.loop-step.invariant in
-    let t = c.take-step.ensures in
+    let t = c.take_step.ensures in
     let left = c.loop-step-test.true in (
-      seen_more _ _ _ _ _ _ _ _ _ left inv.2 inv.3 t.lists (vec_items c.loop-step.seen) (vec_items c.push-reserved.new.self) _ c.take-step.result t.seen c.push-reserved.ensures.items inv.0,
+      seen_more _ _ _ _ _ _ _ _ _ left inv.2 inv.3 t.lists (vec_items c.loop-step.seen) (vec_items c.push_reserved.new.self) _ c.take_step.result t.seen c.push_reserved.ensures.items inv.0,
       lists_more _ _ _ _ _ _ _ _ _ left inv.2 inv.3 t.lists _ inv.1,
       t.reserve ∙ inv.2,
       t.spare ∙ inv.3,
       omega arith,
-      c.push-reserved.ensures.capacity ∙ inv.5,
+      c.push_reserved.ensures.capacity ∙ inv.5,
     )
 
 pub returns : goal.returns

@@ -6,8 +6,8 @@ use Rattle.shelf.proofs.Steps.{counted_yes, counted_no, waiting_upto}
 use Rattle.shelf.proofs.scans.count_of.Goals as goal
 use Rattle.shelf.proofs.scans.count_of.Goals.{then-e-slot, else-e-slot}
 
-pub overflow-add-count : goal.overflow-add-count
-overflow-add-count c = omega (arith, waiting_upto c.args.entries.now c.loop-e.e-index c.args.slot, c.loop-e.invariant)
+pub overflow_add-count : goal.overflow_add-count
+overflow_add-count c = omega (arith, waiting_upto c.args.entries.now c.loop-e.e-index c.args.slot, c.loop-e.invariant)
 
 pub loop-e-preserved : goal.loop-e-preserved
 loop-e-preserved c =

@@ -6,14 +6,14 @@ use Rattle.store.proofs.Follows.{in_use_dropped}
 use Rattle.chains.specs.Stored.{lists, held_in, held_fits, release_ready, release_lists, asks_first, asks_last, asks_more, moved_holds}
 use Rattle.chains.proofs.chains.Chains.release.Goals as goal
 
-pub used-with-used-requires : goal.used-with-used-requires
-used-with-used-requires c =
+pub used_with-used-requires : goal.used_with-used-requires
+used_with-used-requires c =
     let s = c.args.self.now in
     let h = held_in s c.args.slot c.requires in
     record { slot = h; count = omega (arith, held_fits s c.args.slot h) }
 
-pub overflow-add-slot : goal.overflow-add-slot
-overflow-add-slot c = let s = c.args.self.now in omega (arith, (release_ready s c.args.slot c.requires).from_in, s.few, s.chains.ok.0)
+pub overflow_add-slot : goal.overflow_add-slot
+overflow_add-slot c = let s = c.args.self.now in omega (arith, (release_ready s c.args.slot c.requires).from_in, s.few, s.chains.ok.0)
 
 pub shift-requires : goal.shift-requires
 shift-requires c =
@@ -29,16 +29,16 @@ shift-requires c =
       more = asks_more s (i + 1) 0 r;
     }
 
-pub invariant-of-self : goal.invariant-of-self
-invariant-of-self c =
+pub invariant_of-self : goal.invariant_of-self
+invariant_of-self c =
     let s = c.args.self.now in
     let i = c.args.slot in
     let p = c.shift.ensures in
     let ps = c.shift.new.places.items in
     let ds = c.shift.new.chains.items in
     let e = release_lists s i c.requires ps ds p.links p.notices p.chains in
-    let u = c.used-with-used.ensures (drop 1 (held (lists s) i)) (length-drop 1 (held (lists s) i) ∙ ap (λ n. n - 1) (sym c.len.ensures)) in
-    moved_holds s (i + 1) 0 ps _ ds _ c.used-with-used.result (release_ready s i c.requires) p.links p.chains p.places p.number
+    let u = c.used_with-used.ensures (drop 1 (held (lists s) i)) (length-drop 1 (held (lists s) i) ∙ ap (λ n. n - 1) (sym c.len.ensures)) in
+    moved_holds s (i + 1) 0 ps _ ds _ c.used_with-used.result (release_ready s i c.requires) p.links p.chains p.places p.number
     (u ∙ ap (λ (ls : List (List Notice)). in_use s.reserve ls) (sym e)) (omega (arith, u, in_use_dropped s.reserve (lists s) i, s.tally, s.within))
 
 pub returns : goal.returns

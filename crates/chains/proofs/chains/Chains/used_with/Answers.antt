@@ -3,8 +3,8 @@ use Rattle.store.proofs.Follows.{in_use_part, in_use_set}
 use Rattle.chains.specs.Stored.{lists}
 use Rattle.chains.proofs.chains.Chains.used_with.Goals as goal
 
-pub overflow-sub-result : goal.overflow-sub-result
-overflow-sub-result c = let s = c.args.self.now in omega (arith, s.tally, in_use_part s.reserve (lists s) c.args.slot c.requires.slot)
+pub overflow_sub-result : goal.overflow_sub-result
+overflow_sub-result c = let s = c.args.self.now in omega (arith, s.tally, in_use_part s.reserve (lists s) c.args.slot c.requires.slot)
 
 pub returns : goal.returns
 returns c l n =

@@ -9,8 +9,8 @@ use Rattle.store.proofs.Follows.{same_store}
 use Rattle.shelf.proofs.Room.{moved, stuck_more}
 use Rattle.shelf.proofs.shelf.moves.make_room.Goals as goal
 
-pub returns-then-move-down : goal.returns-then-move-down
-returns-then-move-down g c =
+pub returns-then-move_down : goal.returns-then-move_down
+returns-then-move_down g c =
     let i = c.loop-j.invariant in
     let ls = g.S.NoticeStore.lists c.args.lower.now in
     let r = g.S.NoticeStore.reserve c.args.lower.now in
@@ -18,7 +18,7 @@ returns-then-move-down g c =
     let es = c.args.entries.now.items in
     let j = c.loop-j.j in
     let e = c.index-e.result.now in
-    let p = c.if-move-down.ensures in
+    let p = c.if-move_down.ensures in
     let q = ap vec_items i.3 in
     let h : j < length es = omega (arith, c.args.entries.now.ok.0) in
     let leaves = sym (same_store (λ r v ls. may_leave r v ls e.slot) _ r _ v _ ls i.1 i.2 i.0) ∙ sym p.taken in
@@ -41,7 +41,7 @@ loop-j-preserved g c =
     let es = c.args.entries.now.items in
     let j = c.loop-j.j in
     let e = c.index-e.result.now in
-    let p = c.if-move-down.ensures in
+    let p = c.if-move_down.ensures in
     let h : j < length es = omega (arith, c.args.entries.now.ok.0) in
     let stays = sym (same_store (λ r v ls. may_leave r v ls e.slot) _ r _ v _ ls i.1 i.2 i.0) ∙ sym p.taken in (
       p.lists ∙ i.0,

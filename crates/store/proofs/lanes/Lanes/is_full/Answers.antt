@@ -8,4 +8,4 @@ returns-then-slot-len c = sym (full_no_lane c.args.self.now c.args.slot (omega a
 pub returns : goal.returns
 returns c =
     let q = c.index.result.now in
-    c.is-full.ensures ∙ ap (λ (n : ℕ). leb c.args.self.now.reserve n) c.len-2.ensures ∙ full_is c.args.self.now c.args.slot q (omega arith) c.index.ensures
+    c.is_full.ensures ∙ ap (λ (n : ℕ). leb c.args.self.now.reserve n) c.len-2.ensures ∙ full_is c.args.self.now c.args.slot q (omega arith) c.index.ensures

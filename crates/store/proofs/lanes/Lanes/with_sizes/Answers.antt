@@ -5,11 +5,11 @@ use Rattle.store.proofs.lanes.Lanes.with_sizes.Goals as goal
 pub loop-preserved : goal.loop-preserved
 loop-preserved c =
     let i = c.loop.invariant in
-    let m = c.in-ok-with-capacity.ensures in
-    let p = c.push-reserved.ensures in
-    let q = c.in-ok-with-capacity.field-0 in
+    let m = c.in_ok-with_capacity.ensures in
+    let p = c.push_reserved.ensures in
+    let q = c.in_ok-with_capacity.field-0 in
     let xs = c.loop.lanes.items in
-    let v = c.push-reserved.new.self in (
+    let v = c.push_reserved.new.self in (
       empty_pushed deque_items xs v.items q c.loop.counter p.items i.0 m.items,
       omega (arith, p.len, i.1),
       omega (arith, p.capacity, i.2),

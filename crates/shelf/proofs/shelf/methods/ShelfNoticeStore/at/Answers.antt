@@ -27,10 +27,10 @@ pub returns : goal.returns
 returns g c =
     let s = c.args.self.now in
     let i = c.args.slot in
-    let k = c.args.place - c.len_below.result in
+    let k = c.args.place - c.len-below.result in
     let ls = g.S.NoticeStore.lists s.lower in
     let es = take (places s.size (g.S.NoticeStore.spare s.lower)) s.entries.items in
-    c.nth-of.ensures
+    c.nth_of.ensures
     ∙ ap (λ (xs : List Entry). slice_get (waiting xs i) k) c.counted.ensures
-    ∙ sym (nth_right (held ls i) (waiting es i) c.args.place k (omega (arith, c.len_below.ensures)))
+    ∙ sym (nth_right (held ls i) (waiting es i) c.args.place k (omega (arith, c.len-below.ensures)))
     ∙ sym (ap (λ (ns : List Notice). slice_get ns c.args.place) (held_extended ls es i (omega arith)))

@@ -13,13 +13,13 @@ returns g c =
     let z = c.trim.new.self in
     let t = c.trim.ensures in
     let p = c.clear.ensures in
-    let q = c.remove-all.ensures in
-    let fs = c.remove-all.new.entries.items in
+    let q = c.remove_all.ensures in
+    let fs = c.remove_all.new.entries.items in
     let ls = g.S.NoticeStore.lists z.lower in
     let v = ap g.S.NoticeStore.spare t.lower in
     record {
       lists = shelf_all (g.S.NoticeStore.lists c.clear.new.self) z.size (g.S.NoticeStore.spare c.clear.new.self) fs
-          (omega (arith, v, t.len, t.limit, t.size, p.spare, q.len, c.remove-all.new.entries.ok.0))
+          (omega (arith, v, t.len, t.limit, t.size, p.spare, q.len, c.remove_all.new.entries.ok.0))
           ∙ ap (λ (ms : List (List Notice)). extended ms fs) p.lists
           ∙ ap (λ (xs : List Entry). extended (clear_at ls i) xs) q.items
           ∙ extended_clear ls z.entries.items i

@@ -8,16 +8,16 @@ use Rattle.shelf.specs.Extended.{extended_drop, extended_drop_below}
 use Rattle.shelf.proofs.Room.{shelf_all}
 use Rattle.shelf.proofs.shelf.methods.ShelfNoticeStore.drop_oldest.Goals as goal
 
-pub returns-then-none-below : goal.returns-then-none-below
-returns-then-none-below g c =
+pub returns-then-none_below : goal.returns-then-none_below
+returns-then-none_below g c =
     let i = c.args.slot in
     let z = c.trim.new.self in
     let t = c.trim.ensures in
-    let q = c.remove-first.ensures in
-    let fs = c.remove-first.new.entries in
+    let q = c.remove_first.ensures in
+    let fs = c.remove_first.new.entries in
     let ls = g.S.NoticeStore.lists z.lower in
     let v = ap g.S.NoticeStore.spare t.lower in
-    let none = ap (λ (x : g.row.S.Denot). length (held (g.S.NoticeStore.lists x) i)) t.lower ∙ eqb-true _ 0 (sym c.if-none-below.ensures) in
+    let none = ap (λ (x : g.row.S.Denot). length (held (g.S.NoticeStore.lists x) i)) t.lower ∙ eqb-true _ 0 (sym c.if-none_below.ensures) in
     record {
       lists = shelf_all ls z.size (g.S.NoticeStore.spare z.lower) fs.items (omega (arith, v, t.len, t.limit, t.size, q.len, fs.ok.0))
           ∙ ap (λ (xs : List Entry). extended ls xs) q.items
@@ -27,17 +27,17 @@ returns-then-none-below g c =
       spare = omega (arith, v, t.size);
     }
 
-pub returns-else-none-below : goal.returns-else-none-below
-returns-else-none-below g c =
+pub returns-else-none_below : goal.returns-else-none_below
+returns-else-none_below g c =
     let i = c.args.slot in
     let s = c.args.self.now in
     let ls = g.S.NoticeStore.lists s.lower in
     let v = g.S.NoticeStore.spare s.lower in
-    let p = c.drop-oldest.ensures in
+    let p = c.drop_oldest.ensures in
     record {
-      lists = ap (λ (v : ℕ). shelf_lists (g.S.NoticeStore.lists c.drop-oldest.new.self) s.size v s.entries.items) p.spare
+      lists = ap (λ (v : ℕ). shelf_lists (g.S.NoticeStore.lists c.drop_oldest.new.self) s.size v s.entries.items) p.spare
           ∙ ap (λ (ms : List (List Notice)). shelf_lists ms s.size v s.entries.items) p.lists
-          ∙ extended_drop_below ls (take (places s.size v) s.entries.items) i (eqb-false (length (held ls i)) 0 (sym c.if-none-below.ensures));
+          ∙ extended_drop_below ls (take (places s.size v) s.entries.items) i (eqb-false (length (held ls i)) 0 (sym c.if-none_below.ensures));
       reserve = p.reserve;
       spare = omega (arith, p.spare);
     }
