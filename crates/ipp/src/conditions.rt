@@ -16,7 +16,7 @@ pub trait Condition {
 
 // Whether the condition holds of `first` and of each further value behind it.
 pub fn every<'a, C: Condition>(src: &'a [u8], first: Option<Value<'a>>, condition: &C) -> bool
-    ensures { result ≡ all (λ v. C.Condition.holds condition.now v.0 v.1) (values_at src.now first.entry) }
+    ensures { result ≡ all (λ v. C.holds condition.now v.0 v.1) (values_at src.now first.entry) }
 {
     let mut next = first;
     while let Some(value) = next {

@@ -1,5 +1,5 @@
 -- When a slot of a shelf is full, and the lists of a shelf whose entries all count.
-use Rattle.std.proofs.Common.{◌≡◌, ℕ, ◌+◌, ◌-◌, ◌<◌, ◌≤◌, true, false, not, eqb, leb, List, [], length, get_or, take, sym, ap, ◌∙◌, subst, inl, inr, arith}
+use Rattle.std.proofs.Common.{◌≡◌, ℕ, ◌+◌, ◌<◌, ◌≤◌, true, false, not, eqb, leb, List, [], length, get_or, take, sym, ap, ◌∙◌, subst, inl, inr, arith}
 use Rattle.std.specs.List.{remove}
 use Rattle.std.proofs.ByRecursion.{All-more, All-weaker}
 use Rattle.std.proofs.lemmas.List.{length-append, nil_from_length, set_past, take_all}

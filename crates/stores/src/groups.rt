@@ -19,7 +19,7 @@ pub struct Report {
 }
 
 fn sizes_of<S: NoticeStore>(store: &S) -> Sizes
-    ensures { (result.slots ≡ length (lists store.now)) × (result.reserve ≡ reserve store.now) × (result.spare ≡ spare store.now) }
+    ensures { (result.slots ≡ length (S.lists store.now)) × (result.reserve ≡ S.reserve store.now) × (result.spare ≡ S.spare store.now) }
 {
     Sizes {
         slots: store.slots(),
@@ -36,8 +36,8 @@ fn watch<S: NoticeStore + Drop, T: NoticeStore + Drop>(
     mut second: T,
     steps: &[Step],
 ) -> Result<(Report, Report), AllocError>
-    ensures first { IfOk result (λ p. Shows p.0 (S.NoticeStore.reserve first) (S.NoticeStore.spare first) (S.NoticeStore.lists first) steps.now) }
-    ensures second { IfOk result (λ p. Shows p.1 (T.NoticeStore.reserve second) (T.NoticeStore.spare second) (T.NoticeStore.lists second) steps.now) }
+    ensures first { IfOk result (λ p. Shows p.0 (S.reserve first) (S.spare first) (S.lists first) steps.now) }
+    ensures second { IfOk result (λ p. Shows p.1 (T.reserve second) (T.spare second) (T.lists second) steps.now) }
 {
     let first_sizes = sizes_of(&first);
     let second_sizes = sizes_of(&second);
