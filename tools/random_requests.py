@@ -3,7 +3,7 @@
 
     python3 tools/random_requests.py SEED COUNT [PROGRAM]
 
-PROGRAM is target/bin/inspect if not given. Most requests are nearly right: a
+PROGRAM is crates/inspect/out/inspect if not given, which ./demo builds. Most requests are nearly right: a
 good request, with some attributes shuffled, doubled or spoiled, and then a
 byte changed, added, removed, or the end cut off. Prints how often each outcome
 came up, and the first difference, if there is one; then the status is 1.
@@ -83,7 +83,7 @@ def main(arguments):
     dice = random.Random(int(seed))
     lines = [request(dice).hex() for _ in range(int(count))]
     expected = [text for place, line in enumerate(lines, 1) for text in model.report(place, line)]
-    run = subprocess.run(program or ["target/bin/inspect"], input="\n".join(lines) + "\n",
+    run = subprocess.run(program or ["crates/inspect/out/inspect"], input="\n".join(lines) + "\n",
                          capture_output=True, text=True, check=True)
     found = run.stdout.splitlines()
     outcomes = Counter(text.split(": ", 1)[1] for text in expected if text.startswith("line"))

@@ -1,4 +1,5 @@
 -- How many places chains have: a move keeps the sum, and where a slot has room, a place is free.
+-- Lemmas: nothing in this file has to be believed.
 use Rattle.std.specs.Prelude.{◌≡◌, ℕ, zero, suc, ◌+◌, ◌-◌, ◌*◌, ◌<◌, ◌≤◌, List, [], ◌∷◌, length, drop, sum_by, slice_index, slice_index_or, slice_set, refl}
 use Rattle.std.proofs.Common.{sym, ap, ◌∙◌, arith, add-mul, one-mul}
 use Rattle.std.proofs.lemmas.List.{get_or-set_other, length-set, drop-map}

@@ -1,4 +1,5 @@
 -- The first place of one chain moved to the end of another: where each place was before, and what the move keeps.
+-- Lemmas: nothing in this file has to be believed.
 use Rattle.std.specs.Prelude.{◌≡◌, ℕ, suc, ◌-◌, ◌<◌, ◌≢◌, ◌⊎◌, List, length, set, slice_index, slice_set}
 use Rattle.std.proofs.Math.Path.{refl, sym, ap, subst}
 use Rattle.std.proofs.Common.{◌∙◌, arith}

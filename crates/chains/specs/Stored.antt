@@ -1,4 +1,5 @@
 -- The lists of a store, by its places and chains, and what a move keeps of the whole store.
+-- Lemmas: nothing in this file has to be believed.
 use Rattle.std.specs.Prelude.{◌≡◌, ℕ, suc, ◌+◌, ◌-◌, ◌*◌, ◌^◌, ◌<◌, ◌≤◌, false, List, [], map, length, get_or, drop, set, Some, vec_items, vec_len, ◌≢◌, slice_index_or, slice_set, refl}
 use Rattle.std.proofs.Common.{sym, ap, subst, ◌∙◌, inl, inr, arith, mul-le-mul}
 use Rattle.std.specs.List.{slice_get}

@@ -1,4 +1,5 @@
 -- What waits for a slot, after each change of the entries.
+-- Lemmas: nothing in this file has to be believed.
 use Rattle.std.specs.Prelude.{◌≡◌, ℕ, suc, ◌<◌, ◌≤◌, ◌≢◌, List, [], ◌∷◌, ◌++◌, map, length, take, drop, filter, slice_index_or, refl}
 use Rattle.std.proofs.Common.{sym, ap, subst, ◌∙◌, inl, inr, arith, one-add, drop-cons}
 use Rattle.std.specs.List.{remove, AllByRecursion}

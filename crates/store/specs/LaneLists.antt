@@ -1,4 +1,5 @@
 -- The lists of lanes, by the lanes themselves.
+-- Lemmas: nothing in this file has to be believed.
 use Rattle.std.specs.Prelude.{◌≡◌, ℕ, ◌<◌, ◌≤◌, true, false, List, [], map, length, get_or, set, Some, None, vec_items, vec_len, Option, nat_le, slice_index_or, slice_set, refl}
 use Rattle.std.specs.VecDeque.{deque_items, deque_len}
 use Rattle.std.proofs.Common.{sym, ap, ◌∙◌, inl, inr, arith}

@@ -82,13 +82,13 @@ impl NoticeStore for Chains {
 
     ghost spare = { λ s. s.spare };
 
-    ghost slots_bound = { λ s. omega (arith, lists_count s, s.few) };
+    ghost slots_bound = { λ s. Prim.omega (arith, lists_count s, s.few) };
 
-    ghost reserve_bound = { first_of (Prim.search rules, Prim.grind (arith, Self.row.coded.inj)) };
+    ghost reserve_bound = { Prim.search rules };
 
-    ghost spare_bound = { first_of (Prim.search rules, Prim.grind (arith, Self.row.coded.inj)) };
+    ghost spare_bound = { Prim.search rules };
 
-    ghost in_use_bound = { first_of (Prim.search rules, Prim.grind (arith, Self.row.coded.inj)) };
+    ghost in_use_bound = { Prim.search rules };
 
     fn slots(&self) -> usize {
         self.chains.len() - 1

@@ -62,15 +62,15 @@ impl<S: NoticeStore> NoticeStore for Shelf<S> {
 
     ghost spare = { λ s. S.spare s.lower + places s.size (S.spare s.lower) };
 
-    ghost slots_bound = { λ s. omega (arith, length_extended (S.lists s.lower) (take (places s.size (S.spare s.lower)) s.entries.items), S.slots_bound s.lower) };
+    ghost slots_bound = { λ s. Prim.omega (arith, length_extended (S.lists s.lower) (take (places s.size (S.spare s.lower)) s.entries.items), S.slots_bound s.lower) };
 
-    ghost reserve_bound = { first_of (Prim.search rules, Prim.grind (arith, Self.row.coded.inj)) };
+    ghost reserve_bound = { Prim.search rules };
 
-    ghost spare_bound = { first_of (Prim.search rules, Prim.grind (arith, Self.row.coded.inj)) };
+    ghost spare_bound = { Prim.search rules };
 
     ghost in_use_bound = { λ s.
         let p = places s.size (S.spare s.lower) in
-        omega (arith, in_use_most (S.reserve s.lower) (S.lists s.lower) (take p s.entries.items), S.in_use_bound s.lower, length-take p s.entries.items) };
+        Prim.omega (arith, in_use_most (S.reserve s.lower) (S.lists s.lower) (take p s.entries.items), S.in_use_bound s.lower, length-take p s.entries.items) };
 
     fn slots(&self) -> usize {
         self.lower.slots()

@@ -69,13 +69,13 @@ impl NoticeStore for Lanes {
 
     ghost spare = { λ _. 0 };
 
-    ghost slots_bound = { λ s. omega (arith, lanes_long s, s.few) };
+    ghost slots_bound = { λ s. Prim.omega (arith, lanes_long s, s.few) };
 
-    ghost reserve_bound = { first_of (Prim.search rules, Prim.grind (arith, Self.row.coded.inj)) };
+    ghost reserve_bound = { Prim.search rules };
 
-    ghost spare_bound = { first_of (Prim.search rules, Prim.grind (arith, Self.row.coded.inj)) };
+    ghost spare_bound = { Prim.search rules };
 
-    ghost in_use_bound = { λ s. omega (arith, none_of_spare s) };
+    ghost in_use_bound = { λ s. Prim.omega (arith, none_of_spare s) };
 
     fn slots(&self) -> usize {
         self.lanes.len()
