@@ -9,9 +9,9 @@ use Rattle.chains.specs.declared.chain.Chain.{Chain}
 use Rattle.chains.specs.declared.place.Place.{Place}
 use Rattle.chains.specs.Links.{step, chain_at, no_chain, place_of}
 use Rattle.chains.specs.Held.{links_of, notices_of, rows, chain_lists}
-use Rattle.chains.specs.Steps.{step_more}
-use Rattle.chains.specs.Counts.{sum}
-use Rattle.chains.specs.Stored.{Holds, lists_long}
+use Rattle.chains.proofs.Steps.{step_more}
+use Rattle.chains.proofs.Counts.{sum}
+use Rattle.chains.proofs.Stored.{Holds, lists_long}
 
 -- one place more in a row
 pub row_more : (ps qs : List Place) (n i : ℕ) (p : Place) → qs ≡ ps ++ p ∷ [] → n ≡ length ps → n ≡ i → p.next ≡ i + 1 → ((k : ℕ) → k < i → get_or (links_of ps) k 0 ≡ k + 1) → (k : ℕ) → k < i + 1 → get_or (links_of qs) k 0 ≡ k + 1

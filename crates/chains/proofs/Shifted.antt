@@ -5,7 +5,7 @@ use Rattle.chains.specs.declared.chain.Chain.{Chain}
 use Rattle.chains.specs.declared.place.Place.{Place}
 use Rattle.chains.specs.Links.{step, chain_at, shorter, longer, joined_links, moved_links, moved_chains}
 use Rattle.chains.specs.Held.{links_of}
-use Rattle.chains.specs.Steps.{step_more}
+use Rattle.chains.proofs.Steps.{step_more}
 
 -- the link of a place, as `places[p].next` reads it
 pub link_read : (ps : List Place) (p : ℕ) (d : Place) → p < length ps → (get_or ps p d).next ≡ get_or (links_of ps) p 0

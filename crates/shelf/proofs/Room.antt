@@ -6,7 +6,7 @@ use Rattle.std.proofs.lemmas.List.{length-append, nil_from_length, set_past, tak
 use Rattle.std.proofs.lemmas.Bool.{and_cases, and_parts, both_ways, cases_lt, eqb-false, eqb-true, leb-false, not-false, not-true, or_parts}
 use Rattle.notice.specs.declared.event.Notice.{Notice}
 use Rattle.store.specs.Meaning.{held, in_use, full, put_at}
-use Rattle.store.specs.Room.{no_spare, in_reserve, in_spare, full_there, room_so}
+use Rattle.store.proofs.Room.{no_spare, in_reserve, in_spare, full_there, room_so}
 use Rattle.shelf.specs.declared.entry.Entry.{Entry}
 use Rattle.shelf.specs.Shelf.{waiting, extended, places, shelf_lists, goes_below, may_leave, Stuck}
 use Rattle.shelf.specs.Waiting.{none_waits, all_that_wait}

@@ -5,7 +5,7 @@ use Rattle.std.proofs.lemmas.List.Sums.{sum_by-set, get_or-le-sum_by}
 use Rattle.std.proofs.lemmas.Bool.{cases_lt, cases_eq}
 use Rattle.store.specs.Meaning.{held, in_use, full, put_at, drop_at, clear_at}
 use Rattle.store.specs.Laws.{Changes, LeavesOthers, KeepsSlots, NoSuchSlot, Refuses, StaysWithin}
-use Rattle.store.specs.Room.{no_slot, no_spare, full_so, room_so}
+use Rattle.store.proofs.Room.{no_slot, no_spare, full_so, room_so}
 
 pub changes : (X : Type 0) → Changes X
 changes X ls i x h =

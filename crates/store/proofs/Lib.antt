@@ -1,1 +1,4 @@
+pub mod Room
 pub mod Follows
+pub mod Rows
+pub mod LaneLists

@@ -5,7 +5,6 @@ ghost use Rattle.store.specs.Meaning.{held, in_use, full, put_at, drop_at};
 ghost use Rattle.chains.specs.Links.{chain_at};
 ghost use Rattle.chains.specs.Held.{chain_lists};
 ghost use Rattle.std.proofs.Common.{arith, rules};
-ghost use Rattle.chains.specs.Stored.{lists_count};
 
 use super::Chains;
 use super::moves::{follow, shift};
@@ -82,7 +81,7 @@ impl NoticeStore for Chains {
 
     ghost spare = { λ s. s.spare };
 
-    ghost slots_bound = { λ s. Prim.omega (arith, lists_count s, s.few) };
+    ghost slots_bound = { λ s. Prim.omega (arith, s.counted, s.few) };
 
     ghost reserve_bound = { Prim.search rules };
 

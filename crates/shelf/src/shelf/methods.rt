@@ -72,6 +72,7 @@ impl<S: NoticeStore> NoticeStore for Shelf<S> {
         let p = places s.size (S.spare s.lower) in
         Prim.omega (arith, in_use_most (S.reserve s.lower) (S.lists s.lower) (take p s.entries.items), S.in_use_bound s.lower, length-take p s.entries.items) };
 
+    #[tactic(auto, using(crate::specs::Extended::length_extended))]
     fn slots(&self) -> usize {
         self.lower.slots()
     }

@@ -4,7 +4,7 @@ ghost use Rattle.store.specs.Lanes.{lane_lists};
 ghost use Rattle.store.specs.Meaning.{held, full, put_at};
 ghost use Rattle.store.specs.Sizes.{slots_made, reserve_made};
 ghost use Rattle.std.proofs.Common.{arith, rules};
-ghost use Rattle.store.specs.LaneLists.{lanes_long, none_of_spare};
+ghost use Rattle.store.specs.LaneLaws.{lanes_long, none_of_spare};
 
 use super::{Lanes, lane};
 use crate::interface::NoticeStore;
@@ -77,6 +77,7 @@ impl NoticeStore for Lanes {
 
     ghost in_use_bound = { λ s. Prim.omega (arith, none_of_spare s) };
 
+    #[tactic(auto, using(crate::specs::LaneLaws::lanes_long))]
     fn slots(&self) -> usize {
         self.lanes.len()
     }

@@ -2,9 +2,9 @@ use Rattle.std.proofs.Common.{◌+◌, List, [], ◌∷◌, ◌++◌, sym, refl,
 use Rattle.std.proofs.lemmas.List.{length_push}
 use Rattle.notice.specs.declared.event.Notice.{Notice}
 use Rattle.store.specs.Meaning.{held, in_use}
-use Rattle.store.specs.Room.{room_so}
+use Rattle.store.proofs.Room.{room_so}
 use Rattle.store.proofs.Follows.{stays_within}
-use Rattle.chains.specs.Stored.{lists, held_count, put_ready, free_in, append_links, append_chains, append_lists, asks_first, asks_last, asks_more, moved_holds}
+use Rattle.chains.proofs.Stored.{lists, held_count, put_ready, free_in, append_links, append_chains, append_lists, asks_first, asks_last, asks_more, moved_holds}
 use Rattle.chains.proofs.chains.Chains.append.Goals as goal
 
 pub overflow_add-len : goal.overflow_add-len

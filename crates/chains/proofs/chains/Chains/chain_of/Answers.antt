@@ -1,6 +1,6 @@
 use Rattle.std.proofs.Common.{sym, ap, ◌∙◌, arith}
 use Rattle.chains.specs.declared.chain.Chain.{Chain}
-use Rattle.chains.specs.Stored.{held_count, no_slot_chain, slot_read}
+use Rattle.chains.proofs.Stored.{held_count, no_slot_chain, slot_read}
 use Rattle.chains.proofs.chains.Chains.chain_of.Goals as goal
 
 pub returns-then-slot-slots : goal.returns-then-slot-slots

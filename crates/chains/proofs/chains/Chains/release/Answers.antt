@@ -3,7 +3,7 @@ use Rattle.std.proofs.lemmas.List.{length-drop}
 use Rattle.notice.specs.declared.event.Notice.{Notice}
 use Rattle.store.specs.Meaning.{held, in_use}
 use Rattle.store.proofs.Follows.{in_use_dropped}
-use Rattle.chains.specs.Stored.{lists, held_in, held_fits, release_ready, release_lists, asks_first, asks_last, asks_more, moved_holds}
+use Rattle.chains.proofs.Stored.{lists, held_in, held_fits, release_ready, release_lists, asks_first, asks_last, asks_more, moved_holds}
 use Rattle.chains.proofs.chains.Chains.release.Goals as goal
 
 pub used_with-used-requires : goal.used_with-used-requires

@@ -1,6 +1,6 @@
 use Rattle.std.proofs.Common.{arith}
 use Rattle.store.proofs.Follows.{in_use_part, in_use_set}
-use Rattle.chains.specs.Stored.{lists}
+use Rattle.chains.proofs.Stored.{lists}
 use Rattle.chains.proofs.chains.Chains.used_with.Goals as goal
 
 pub overflow_sub-result : goal.overflow_sub-result

@@ -4,7 +4,7 @@ use Rattle.chains.specs.declared.chain.Chain.{Chain}
 use Rattle.chains.specs.declared.place.Place.{Place}
 use Rattle.chains.specs.Links.{no_chain}
 use Rattle.chains.proofs.Shifted.{shifted_chains, shifted_none, shifted_some}
-use Rattle.chains.specs.Stored.{part_stays}
+use Rattle.chains.proofs.Stored.{part_stays}
 use Rattle.chains.proofs.chains.moves.shift.Goals as goal
 
 pub returns-then-b-eq0 : goal.returns-then-b-eq0

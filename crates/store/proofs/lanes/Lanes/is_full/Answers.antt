@@ -1,5 +1,5 @@
 use Rattle.std.proofs.Common.{ℕ, leb, sym, ap, ◌∙◌, arith}
-use Rattle.store.specs.LaneLists.{full_no_lane, full_is}
+use Rattle.store.proofs.LaneLists.{full_no_lane, full_is}
 use Rattle.store.proofs.lanes.Lanes.is_full.Goals as goal
 
 pub returns-then-slot-len : goal.returns-then-slot-len

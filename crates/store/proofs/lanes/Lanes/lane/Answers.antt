@@ -1,5 +1,5 @@
 use Rattle.std.proofs.Common.{sym, arith}
-use Rattle.store.specs.LaneLists.{lane_holds, no_lane_holds}
+use Rattle.store.proofs.LaneLists.{lane_holds, no_lane_holds}
 use Rattle.store.proofs.lanes.Lanes.lane.Goals as goal
 
 pub returns-then-slot-len : goal.returns-then-slot-len

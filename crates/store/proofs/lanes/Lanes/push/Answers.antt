@@ -1,6 +1,6 @@
 use Rattle.std.proofs.Common.{◌<◌, List, [], ◌∷◌, ◌++◌, vec_len, deque_len, sym, refl, ap, ◌∙◌, arith, rules}
 use Rattle.notice.specs.declared.event.Notice.{Notice}
-use Rattle.store.specs.LaneLists.{lane_holds, lane_long, lane_changed, lane_room}
+use Rattle.store.proofs.LaneLists.{lane_holds, lane_long, lane_changed, lane_room}
 use Rattle.store.proofs.lanes.Lanes.push.Goals as goal
 
 pub index_mut-requires : goal.index_mut-requires

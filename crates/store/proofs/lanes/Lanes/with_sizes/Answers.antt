@@ -1,5 +1,5 @@
 use Rattle.std.proofs.Common.{◌≤◌, deque_items, deque_len, deque_capacity, arith}
-use Rattle.store.specs.Rows.{every_pushed, empty_pushed}
+use Rattle.store.proofs.Rows.{every_pushed, empty_pushed}
 use Rattle.store.proofs.lanes.Lanes.with_sizes.Goals as goal
 
 pub loop-preserved : goal.loop-preserved

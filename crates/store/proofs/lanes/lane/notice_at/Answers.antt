@@ -1,5 +1,5 @@
 use Rattle.std.proofs.Common.{deque_items, ◌∙◌}
-use Rattle.store.specs.LaneLists.{got}
+use Rattle.store.proofs.LaneLists.{got}
 use Rattle.store.proofs.lanes.lane.notice_at.Goals as goal
 
 pub returns : goal.returns

@@ -1,7 +1,7 @@
 use Rattle.std.proofs.Common.{◌+◌, sym, ap, arith}
 use Rattle.std.proofs.lemmas.Option.{slice_get_past}
 use Rattle.chains.specs.declared.chain.Chain.{Chain}
-use Rattle.chains.specs.Stored.{place_in, may_follow, followed, at_is}
+use Rattle.chains.proofs.Stored.{place_in, may_follow, followed, at_is}
 use Rattle.chains.proofs.chains.methods.ChainsNoticeStore.at.Goals as goal
 
 pub returns-then-place-chain : goal.returns-then-place-chain

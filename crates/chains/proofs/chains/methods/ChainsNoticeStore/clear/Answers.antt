@@ -2,7 +2,7 @@ use Rattle.std.proofs.Common.{List, length, sym, ap, ◌∙◌, arith}
 use Rattle.notice.specs.declared.event.Notice.{Notice}
 use Rattle.store.specs.Meaning.{held, clear_at}
 use Rattle.store.proofs.Follows.{clear_nothing, clear_dropped, drop_shortens}
-use Rattle.chains.specs.Stored.{lists}
+use Rattle.chains.proofs.Stored.{lists}
 use Rattle.chains.proofs.chains.methods.ChainsNoticeStore.clear.Goals as goal
 
 pub loop-self-smaller : goal.loop-self-smaller

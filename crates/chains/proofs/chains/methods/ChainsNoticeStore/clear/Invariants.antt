@@ -1,6 +1,6 @@
 use Rattle.std.proofs.Common.{◌≡◌, length}
 use Rattle.store.specs.Meaning.{held, clear_at}
-use Rattle.chains.specs.Stored.{lists}
+use Rattle.chains.proofs.Stored.{lists}
 use Rattle.chains.proofs.chains.methods.ChainsNoticeStore.clear.Given as goal
 
 abbrev pub invariant-loop-self : goal.invariant-loop-self

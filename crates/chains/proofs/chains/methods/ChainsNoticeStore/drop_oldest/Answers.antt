@@ -1,6 +1,6 @@
 use Rattle.std.proofs.Common.{sym, refl, arith}
 use Rattle.store.proofs.Follows.{drop_nothing}
-use Rattle.chains.specs.Stored.{lists}
+use Rattle.chains.proofs.Stored.{lists}
 use Rattle.chains.proofs.chains.methods.ChainsNoticeStore.drop_oldest.Goals as goal
 
 pub returns-then-len-eq0 : goal.returns-then-len-eq0

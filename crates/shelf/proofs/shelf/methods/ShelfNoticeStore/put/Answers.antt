@@ -1,7 +1,7 @@
 use Rattle.std.proofs.Common.{◌+◌, ◌<◌, not, List, length, take, sym, refl, ap, ◌∙◌, arith}
 use Rattle.notice.specs.declared.event.Notice.{Notice}
 use Rattle.store.specs.Meaning.{full, put_at}
-use Rattle.store.specs.Room.{no_slot}
+use Rattle.store.proofs.Room.{no_slot}
 use Rattle.shelf.specs.declared.entry.Entry.{Entry}
 use Rattle.shelf.specs.Shelf.{extended, places, goes_below}
 use Rattle.shelf.specs.Extended.{length_extended, extended_put, extended_push}

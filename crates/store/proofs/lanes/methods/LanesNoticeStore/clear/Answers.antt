@@ -1,5 +1,5 @@
 use Rattle.std.proofs.Common.{refl, arith}
-use Rattle.store.specs.LaneLists.{lane_changed, no_lane_changed}
+use Rattle.store.proofs.LaneLists.{lane_changed, no_lane_changed}
 use Rattle.store.proofs.lanes.methods.LanesNoticeStore.clear.Goals as goal
 
 pub returns-then-slot-len : goal.returns-then-slot-len

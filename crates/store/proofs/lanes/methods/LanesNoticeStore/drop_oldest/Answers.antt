@@ -1,6 +1,6 @@
 use Rattle.std.proofs.Common.{List, drop, sym, refl, ap, ◌∙◌, arith}
 use Rattle.notice.specs.declared.event.Notice.{Notice}
-use Rattle.store.specs.LaneLists.{lane_holds, lane_changed, no_lane_changed}
+use Rattle.store.proofs.LaneLists.{lane_holds, lane_changed, no_lane_changed}
 use Rattle.store.proofs.lanes.methods.LanesNoticeStore.drop_oldest.Goals as goal
 
 pub returns-then-slot-len : goal.returns-then-slot-len

@@ -1,5 +1,4 @@
 -- What chains hold, and how that changes when a place moves from one to another.
--- Lemmas: nothing in this file has to be believed.
 use Rattle.std.specs.Prelude.{◌≡◌, ℕ, zero, suc, ◌+◌, ◌-◌, ◌<◌, ◌≢◌, List, [], ◌∷◌, ◌++◌, length, get_or, drop, set, slice_index, slice_index_or, slice_set, refl}
 use Rattle.std.proofs.Common.{sym, ap, ◌∙◌, inl, inr, arith}
 use Rattle.std.proofs.lemmas.List.{get_or-set_same, get_or-set_other, length-set, length-drop, length-map, get_or-map, get_or_past, get_or-drop, ext_get_or}
@@ -9,7 +8,7 @@ use Rattle.store.specs.Meaning.{held, put_at, drop_at}
 use Rattle.chains.specs.declared.chain.Chain.{Chain}
 use Rattle.chains.specs.Links.{step, chain_at, no_chain, place_of, moved_links, moved_chains}
 use Rattle.chains.specs.Held.{blank, walk, rows}
-use Rattle.chains.specs.Moved.{Ready, moved_long, chain_to, chain_from, chain_other, place_other, place_from, place_to, place_new}
+use Rattle.chains.proofs.Moved.{Ready, moved_long, chain_to, chain_from, chain_other, place_other, place_from, place_to, place_new}
 
 -- equal places hold equal lists
 walk_same : (nx ny : List ℕ) (ts us : List Notice) (p q n : ℕ) → ((k : ℕ) → k < n → slice_index_or us (step ny q k) blank ≡ slice_index_or ts (step nx p k) blank) → walk ny us q n ≡ walk nx ts p n

@@ -1,5 +1,4 @@
 -- The first place of one chain moved to the end of another: where each place was before, and what the move keeps.
--- Lemmas: nothing in this file has to be believed.
 use Rattle.std.specs.Prelude.{◌≡◌, ℕ, suc, ◌-◌, ◌<◌, ◌≢◌, ◌⊎◌, List, length, set, slice_index, slice_set}
 use Rattle.std.proofs.Math.Path.{refl, sym, ap, subst}
 use Rattle.std.proofs.Common.{◌∙◌, arith}
@@ -8,7 +7,7 @@ use Rattle.std.proofs.lemmas.List.{get_or-set_same, get_or-set_other, length-set
 use Rattle.std.proofs.lemmas.Bool.{cases_lt, cases_eq}
 use Rattle.chains.specs.declared.chain.Chain.{Chain}
 use Rattle.chains.specs.Links.{step, chain_at, no_chain, place_of, Inside, Apart, Once, Ends, shorter, longer, moved_links, moved_chains}
-use Rattle.chains.specs.Steps.{step_joined, length_joined, Row, joined_before, joined_last}
+use Rattle.chains.proofs.Steps.{step_joined, length_joined, Row, joined_before, joined_last}
 
 -- what a move is given
 pub record Ready (nx : List ℕ) (cs : List Chain) (f t : ℕ) : Type 0 where

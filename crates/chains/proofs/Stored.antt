@@ -1,5 +1,4 @@
 -- The lists of a store, by its places and chains, and what a move keeps of the whole store.
--- Lemmas: nothing in this file has to be believed.
 use Rattle.std.specs.Prelude.{◌≡◌, ℕ, suc, ◌+◌, ◌-◌, ◌*◌, ◌^◌, ◌<◌, ◌≤◌, false, List, [], map, length, get_or, drop, set, Some, vec_items, vec_len, ◌≢◌, slice_index_or, slice_set, refl}
 use Rattle.std.proofs.Common.{sym, ap, subst, ◌∙◌, inl, inr, arith, mul-le-mul}
 use Rattle.std.specs.List.{slice_get}
@@ -9,15 +8,15 @@ use Rattle.std.proofs.lemmas.List.Sums.{get_or-le-sum_by}
 use Rattle.std.proofs.lemmas.Bool.{cases_lt}
 use Rattle.notice.specs.declared.event.Notice.{Notice}
 use Rattle.store.specs.Meaning.{held, in_use, full, put_at, drop_at}
-use Rattle.store.specs.Room.{room_so}
+use Rattle.store.proofs.Room.{room_so}
 use Rattle.chains.specs.declared.chain.Chain.{Chain}
 use Rattle.chains.specs.declared.chains.Chains.{Chains}
 use Rattle.chains.specs.declared.place.Place.{Place}
 use Rattle.chains.specs.Links.{step, chain_at, no_chain, Inside, Apart, Once, Ends, moved_links, moved_chains}
 use Rattle.chains.specs.Held.{blank, links_of, notices_of, walk, rows, chain_lists}
-use Rattle.chains.specs.Moved.{Ready, moved_long, moved_inside, moved_apart, moved_once, moved_ends}
-use Rattle.chains.specs.Walks.{rows_long, slot_at, walk_long, walk_at, moved_put, moved_drop}
-use Rattle.chains.specs.Counts.{sum, moved_sum, in_use_lists, free_some}
+use Rattle.chains.proofs.Moved.{Ready, moved_long, moved_inside, moved_apart, moved_once, moved_ends}
+use Rattle.chains.proofs.Walks.{rows_long, slot_at, walk_long, walk_at, moved_put, moved_drop}
+use Rattle.chains.proofs.Counts.{sum, moved_sum, in_use_lists, free_some}
 
 -- a place written anew, by one of its parts
 pub part_stays : {X : Type 0} (f : Place → X) (ps : List Place) (i : ℕ) (p q : Place) → i < length ps → p ≡ slice_index_or ps i p → f q ≡ f p → map f (slice_set ps i q) ≡ map f ps

@@ -1,5 +1,4 @@
 -- How many places chains have: a move keeps the sum, and where a slot has room, a place is free.
--- Lemmas: nothing in this file has to be believed.
 use Rattle.std.specs.Prelude.{◌≡◌, ℕ, zero, suc, ◌+◌, ◌-◌, ◌*◌, ◌<◌, ◌≤◌, List, [], ◌∷◌, length, drop, sum_by, slice_index, slice_index_or, slice_set, refl}
 use Rattle.std.proofs.Common.{sym, ap, ◌∙◌, arith, add-mul, one-mul}
 use Rattle.std.proofs.lemmas.List.{get_or-set_other, length-set, drop-map}
@@ -9,8 +8,8 @@ use Rattle.store.specs.Meaning.{in_use}
 use Rattle.chains.specs.declared.chain.Chain.{Chain}
 use Rattle.chains.specs.Links.{chain_at, no_chain, shorter, longer, moved_chains}
 use Rattle.chains.specs.Held.{walk, rows}
-use Rattle.chains.specs.Moved.{Ready}
-use Rattle.chains.specs.Walks.{walk_long}
+use Rattle.chains.proofs.Moved.{Ready}
+use Rattle.chains.proofs.Walks.{walk_long}
 
 -- the number of all places
 abbrev pub sum : List Chain → ℕ

@@ -1,5 +1,4 @@
 -- When a slot is full, in each of the ways in which code finds out.
--- Lemmas: nothing in this file has to be believed.
 use Rattle.std.specs.Prelude.{◌≡◌, ℕ, ◌<◌, ◌≤◌, true, false, ◌⊎◌, List, length, ◌≢◌}
 use Rattle.std.proofs.Common.{inl, inr, arith}
 use Rattle.std.proofs.lemmas.Bool.{leb-true, leb-false, eqb-true, eqb-false, le-leb, lt-leb, eq-eqb, ne_eqb, and_parts, and_from, and_left, and_right, and_cases, or_cases, or_parts, or_from, or_left, or_right}

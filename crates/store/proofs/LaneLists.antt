@@ -1,6 +1,5 @@
 -- The lists of lanes, by the lanes themselves.
--- Lemmas: nothing in this file has to be believed.
-use Rattle.std.specs.Prelude.{◌≡◌, ℕ, ◌<◌, ◌≤◌, true, false, List, [], map, length, get_or, set, Some, None, vec_items, vec_len, Option, nat_le, slice_index_or, slice_set, refl}
+use Rattle.std.specs.Prelude.{◌≡◌, ℕ, ◌<◌, ◌≤◌, true, false, List, [], map, length, set, Some, None, vec_items, vec_len, Option, nat_le, slice_index_or, slice_set, refl}
 use Rattle.std.specs.VecDeque.{deque_items, deque_len}
 use Rattle.std.proofs.Common.{sym, ap, ◌∙◌, inl, inr, arith}
 use Rattle.std.specs.Borrow.{Bor}
@@ -10,17 +9,15 @@ use Rattle.std.specs.List.{slice_get}
 use Rattle.std.specs.declared.alloc.Global.{Global}
 use Rattle.std.specs.declared.collections.VecDeque.{VecDeque}
 use Rattle.std.proofs.lemmas.Option.{slice_get_read, slice_get_past}
-use Rattle.std.proofs.lemmas.List.{length-map, map-set, set_past}
+use Rattle.std.proofs.lemmas.List.{map-set, set_past}
 use Rattle.std.proofs.lemmas.Bool.{cases_lt, lt-leb, le-leb}
 use Rattle.notice.specs.declared.event.Notice.{Notice}
 use Rattle.store.specs.declared.lanes.Lanes.{Lanes}
 use Rattle.store.specs.Lanes.{lane_lists}
-use Rattle.store.specs.Meaning.{held, in_use, full}
-use Rattle.store.specs.Room.{no_slot, no_spare, in_reserve, room_so}
-use Rattle.store.specs.Rows.{held_map, held_map_past, held_short, none_in_use}
-
-pub lanes_long : (s : Lanes) → length (lane_lists s) ≡ vec_len s.lanes
-lanes_long s = length-map (vec_items s.lanes) deque_items ∙ sym s.lanes.ok.0
+use Rattle.store.specs.LaneLaws.{lanes_long, none_of_spare}
+use Rattle.store.specs.Meaning.{held, full}
+use Rattle.store.proofs.Room.{no_slot, no_spare, in_reserve, room_so}
+use Rattle.store.proofs.Rows.{held_map, held_map_past}
 
 module _ (s : Lanes) (i : ℕ) (q : VecDeque Notice Global) (h : i < vec_len s.lanes) (e : q ≡ slice_index_or (vec_items s.lanes) i q) where
   pub lane_holds : held (lane_lists s) i ≡ deque_items q
@@ -37,12 +34,6 @@ lane_changed s i q l e = map-set deque_items (vec_items s.lanes) i q ∙ ap (λ 
 
 pub no_lane_changed : (s : Lanes) (i : ℕ) (l : List Notice) → vec_len s.lanes ≤ i → lane_lists s ≡ slice_set (lane_lists s) i l
 no_lane_changed s i l h = sym (set_past (lane_lists s) i l (omega (arith, lanes_long s)))
-
-pub none_of_spare : (s : Lanes) → in_use s.reserve (lane_lists s) ≡ 0
-none_of_spare s =
-    none_in_use s.reserve (lane_lists s)
-    (held_short deque_items s.reserve (vec_items s.lanes)
-    (λ j d a b. let e = (get_or (vec_items s.lanes) j d).ok.0 in let k = s.short j d a (omega (arith, s.lanes.ok.0)) in omega (arith, e, k)))
 
 pub full_no_lane : (s : Lanes) (i : ℕ) → vec_len s.lanes ≤ i → full s.reserve 0 (lane_lists s) i ≡ true
 full_no_lane s i h = no_slot s.reserve 0 (lane_lists s) i (omega (arith, lanes_long s))
