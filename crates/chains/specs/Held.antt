@@ -1,5 +1,6 @@
 -- What chains of places hold.
 use Rattle.std.specs.Prelude.{ℕ, zero, suc, false, List, [], ◌∷◌, map, drop, slice_index, slice_index_or}
+use Rattle.std.specs.List.{range_with_len}
 use Rattle.notice.specs.declared.event.Event.TheVariants as event
 use Rattle.notice.specs.declared.event.Notice.{Notice}
 use Rattle.notice.specs.declared.kinds.Kind.TheVariants as kind
@@ -18,6 +19,10 @@ blank =
       subscribed = kind.Printer printer-kind.StateChanged;
       event = event.Printer (record { kind = printer-kind.StateChanged; state = printer-state.Idle; reason = printer-reason.None; accepting = false });
     }
+
+-- n places in a row, each linked to the one after it
+abbrev pub fresh_places : ℕ → List Place
+fresh_places n = map (λ next. record { notice = blank; next = next }) (range_with_len 1 n)
 
 abbrev pub links_of : List Place → List ℕ
 links_of places = map (λ p. p.next) places

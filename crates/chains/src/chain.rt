@@ -1,9 +1,10 @@
 // A chain of places.
 ghost use Rattle.std.specs.Prelude.{◌≡◌, ◌+◌, ◌^◌, ◌<◌};
-ghost use Rattle.chains.specs.Links.{no_chain, shorter, longer};
+ghost use Rattle.chains.specs.Links.{shorter, longer};
 
-// Its first place and its last, by their numbers in the table, and how many places it has.
-#[derive(Clone, Copy)]
+// Its first place and its last, by their numbers in the table, and how many places it has. The
+// default has none: first and last mean nothing there, as the count says, so they are no Options.
+#[derive(Clone, Copy, Default)]
 pub struct Chain {
     pub first: u32,
     pub last: u32,
@@ -11,16 +12,6 @@ pub struct Chain {
 }
 
 impl Chain {
-    pub fn empty() -> Chain
-        ensures { result ≡ no_chain }
-    {
-        Chain {
-            first: 0,
-            last: 0,
-            count: 0,
-        }
-    }
-
     // The chain without its first place; `next` is the place behind that.
     pub fn shorter(self, next: u32) -> Chain
         requires { 0 < self.count }

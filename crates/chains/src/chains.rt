@@ -12,6 +12,9 @@ mod methods;
 mod moves;
 
 // Chain 0 is that of the free places, and chain i + 1 that of slot i. `used` is the spare in use.
+// One table, taken at opening, whose places are linked by their numbers: put and drop take the same
+// time however many places there are, and no memory. What always holds is said by ghost fields, and
+// not by a model in the place of the fields, since the laws of a store need it of every value.
 #[derive(Drop)]
 pub struct Chains {
     places: Vec<Place>,

@@ -1,12 +1,12 @@
 -- The steps of reading and of writing, and what is read back. Assumes nothing.
-use Rattle.std.proofs.Common.{◌≡◌, ℕ, ◌+◌, ◌*◌, ◌/◌, ◌%◌, ◌<◌, ◌≤◌, List, [], ◌∷◌, ◌++◌, length, get_or, drop, Ok, Err, Result, sym, refl, ap, ◌∙◌, inl, inr, arith}
-use Rattle.std.proofs.lemmas.List.{append_assoc, append-nil, at_drop_more, at_drop_all, drop_more, drop_all}
-use Rattle.std.proofs.lemmas.Bool.{le-leb}
-use Rattle.std.proofs.lemmas.Bool.Decides.{nat_tests, leb_tells}
+use Rattle.std.proofs.Common.{◌≡◌, ℕ, zero, suc, ◌+◌, ◌*◌, ◌/◌, ◌%◌, ◌<◌, ◌≤◌, List, [], ◌∷◌, ◌++◌, length, get_or, drop, Ok, Err, Result, sym, refl, ap, ◌∙◌, arith}
+use Rattle.std.proofs.lemmas.List.{append_assoc, append-nil, at_drop_more, at_drop_all, drop_more}
+use Rattle.std.proofs.lemmas.Bool.Decides.{nat_tests}
 use Rattle.std.specs.List.{AllByRecursion}
+use Rattle.std.specs.Simd.{first_chunks}
 use Rattle.hex_text.specs.declared.HexFault.{HexFault}
 use Rattle.hex_text.specs.declared.HexFault.TheVariants.{Digit, Odd, Memory}
-use Rattle.hex_text.specs.Hex.{digit_of, then, byte_of, fault_alone, bytes_of, byte_at, Says, char_of, text_of}
+use Rattle.hex_text.specs.Hex.{digit_of, then, byte_of, bytes_of, Says, char_of, text_of}
 
 -- what is read after some bytes
 abbrev pub after : List ℕ → Result (List ℕ) HexFault → Result (List ℕ) HexFault
@@ -23,44 +23,66 @@ says w Digit h = h
 says w Odd h = h
 says w Memory h = tt
 
+-- what is read from pairs of digits, and then from the rest
+abbrev pub pairs_of : List (List ℕ) → List ℕ → Result (List ℕ) HexFault
+pairs_of [] rest = bytes_of rest
+pairs_of (p ∷ ps) rest = then (byte_of (get_or p 0 0) (get_or p 1 0)) (λ n. then (pairs_of ps rest) (λ bs. Ok (n ∷ bs)))
+
+pub pairs_read : (k : ℕ) (xs : List ℕ) → k * 2 ≤ length xs → pairs_of (first_chunks 2 k xs) (drop (k * 2) xs) ≡ bytes_of xs
+pairs_read zero xs h = refl
+pairs_read (suc k) [] h = absurd (omega arith)
+pairs_read (suc k) (a ∷ []) h = absurd (omega arith)
+pairs_read (suc k) (a ∷ b ∷ cs) h =
+    let twice : suc k * 2 ≡ suc (suc (k * 2)) = omega arith in
+    rw (twice, pairs_read k cs (omega arith))
+
+after_none : (r : Result (List ℕ) HexFault) → after [] r ≡ r
+after_none (Ok bs) = refl
+after_none (Err e) = refl
+
+-- all pairs are left
+pub all_left : (xs : List ℕ) (ps : List (List ℕ)) (rest : List ℕ) → ps ≡ first_chunks 2 (length xs / 2) xs → rest ≡ drop (length xs / 2 * 2) xs → after [] (pairs_of ps rest) ≡ bytes_of xs
+all_left xs ps rest p q = rw (p, q) (after_none (pairs_of (first_chunks 2 (length xs / 2) xs) (drop (length xs / 2 * 2) xs)) ∙ pairs_read (length xs / 2) xs (omega arith))
+
+alone_fails : (acc rest : List ℕ) (e : HexFault) → length rest ≡ 1 → digit_of (get_or rest 0 0) ≡ Err e → after acc (bytes_of rest) ≡ Err e
+alone_fails acc [] e h d = absurd (omega arith)
+alone_fails acc (a ∷ []) e h d = rw d
+alone_fails acc (a ∷ b ∷ cs) e h d = absurd (omega arith)
+
+alone_is_odd : (acc rest : List ℕ) (n : ℕ) → length rest ≡ 1 → digit_of (get_or rest 0 0) ≡ Ok n → after acc (bytes_of rest) ≡ Err Odd
+alone_is_odd acc [] n h d = absurd (omega arith)
+alone_is_odd acc (a ∷ []) n h d = rw d
+alone_is_odd acc (a ∷ b ∷ cs) n h d = absurd (omega arith)
+
+nothing_left : (acc rest : List ℕ) → length rest ≡ 0 → after acc (bytes_of rest) ≡ Ok acc
+nothing_left acc [] h = ap Ok (append-nil acc)
+nothing_left acc (a ∷ cs) h = absurd (omega arith)
+
+module _ (ps : List (List ℕ)) (rest : List ℕ) (at : ℕ) (acc : List ℕ) where
+  pub fault_left : (e : HexFault) → at < length ps → byte_of (get_or (get_or ps at []) 0 0) (get_or (get_or ps at []) 1 0) ≡ Err e → after acc (pairs_of (drop at ps) rest) ≡ Err e
+  fault_left e h d = rw (drop_more ps at [] h, d)
+
+  pub byte_read : (n : ℕ) → at < length ps → byte_of (get_or (get_or ps at []) 0 0) (get_or (get_or ps at []) 1 0) ≡ Ok n → after acc (pairs_of (drop at ps) rest) ≡ after (acc ++ n ∷ []) (pairs_of (drop (at + 1) ps) rest)
+  byte_read n h d = rw (drop_more ps at [] h, d) (after_more acc n (pairs_of (drop (at + 1) ps) rest))
+
+  no_pair_left : length ps ≤ at → after acc (pairs_of (drop at ps) rest) ≡ after acc (bytes_of rest)
+  no_pair_left h = at_drop_all (λ qs. after acc (pairs_of qs rest)) ps at h
+
+  pub alone_fault : (e : HexFault) → length ps ≤ at → length rest ≡ 1 → digit_of (get_or rest 0 0) ≡ Err e → after acc (pairs_of (drop at ps) rest) ≡ Err e
+  alone_fault e h l d = no_pair_left h ∙ alone_fails acc rest e l d
+
+  pub alone_odd : (n : ℕ) → length ps ≤ at → length rest ≡ 1 → digit_of (get_or rest 0 0) ≡ Ok n → after acc (pairs_of (drop at ps) rest) ≡ Err Odd
+  alone_odd n h l d = no_pair_left h ∙ alone_is_odd acc rest n l d
+
+  pub bytes_done : length ps ≤ at → length rest ≡ 0 → after acc (pairs_of (drop at ps) rest) ≡ Ok acc
+  bytes_done h l = no_pair_left h ∙ nothing_left acc rest l
+
 module _ (xs : List ℕ) (at : ℕ) where
-  -- one digit is left
-  drop_one : at + 1 ≡ length xs → drop at xs ≡ get_or xs at 0 ∷ []
-  drop_one h = drop_more xs at 0 (omega arith) ∙ ap (λ ys. get_or xs at 0 ∷ ys) (drop_all (at + 1) xs (omega arith))
-
-  -- two digits and more are left
-  drop_two : at + 2 ≤ length xs → drop at xs ≡ get_or xs at 0 ∷ get_or xs (at + 1) 0 ∷ drop (at + 2) xs
-  drop_two h =
-      drop_more xs at 0 (omega arith)
-      ∙ ap (λ ys. get_or xs at 0 ∷ ys) (drop_more xs (at + 1) 0 (omega arith) ∙ ap (λ n. get_or xs (at + 1) 0 ∷ drop n xs) (omega arith))
-
-  one_fault : (acc : List ℕ) (e : HexFault) → at + 1 ≡ length xs → ◌≡◌ {A = Result ℕ HexFault} (Err e) (Err (fault_alone (digit_of (get_or xs at 0)))) → after acc (bytes_of (drop at xs)) ≡ Err e
-  one_fault acc e h d = let q : fault_alone (digit_of (get_or xs at 0)) ≡ e = cc in rw (drop_one h) (ap Err q)
-
-  two_fault : (acc : List ℕ) (e : HexFault) → at + 2 ≤ length xs → Err e ≡ byte_of (get_or xs at 0) (get_or xs (at + 1) 0) → after acc (bytes_of (drop at xs)) ≡ Err e
-  two_fault acc e h d = rw (drop_two h, ← d)
-
-  two_read : (acc : List ℕ) (n : ℕ) → at + 2 ≤ length xs → byte_of (get_or xs at 0) (get_or xs (at + 1) 0) ≡ Ok n → after acc (bytes_of (drop at xs)) ≡ after (acc ++ n ∷ []) (bytes_of (drop (at + 2) xs))
-  two_read acc n h d = rw (drop_two h, d) (after_more acc n (bytes_of (drop (at + 2) xs)))
-
-  pub fault_left : (acc : List ℕ) (e : HexFault) → at < length xs → Err e ≡ byte_at xs at → after acc (bytes_of (drop at xs)) ≡ Err e
-  fault_left acc e h d =
-      elim (leb_tells (at + 2) (length xs)) [
-        | inl p ↦ two_fault acc e p.1 (rw p.0 at d)
-        | inr p ↦ one_fault acc e (omega (arith, p.1)) (rw p.0 at d)
-      ]
-
-  pub byte_read : (acc : List ℕ) (n : ℕ) → at + 2 ≤ length xs → byte_at xs at ≡ Ok n → after acc (bytes_of (drop at xs)) ≡ after (acc ++ n ∷ []) (bytes_of (drop (at + 2) xs))
-  byte_read acc n h d = two_read acc n h (rw (le-leb (at + 2) (length xs) h) at d)
-
-  pub text_left : (acc : List ℕ) → at < length xs → acc ++ text_of (drop at xs) ≡ ((acc ++ char_of (get_or xs at 0 / 16) ∷ []) ++ char_of (get_or xs at 0 % 16) ∷ []) ++ text_of (drop (at + 1) xs)
+  pub text_left : (acc : List ℕ) → at < length xs → acc ++ text_of (drop at xs) ≡ (acc ++ char_of (get_or xs at 0 / 16) ∷ char_of (get_or xs at 0 % 16) ∷ []) ++ text_of (drop (at + 1) xs)
   text_left acc h = at_drop_more (λ ys. acc ++ text_of ys) xs at 0 h ∙ simp append_assoc
 
   pub text_done : (acc : List ℕ) → length xs ≤ at → acc ++ text_of (drop at xs) ≡ acc
   text_done acc h = at_drop_all (λ ys. acc ++ text_of ys) xs at h ∙ append-nil acc
-
-  pub bytes_done : (acc : List ℕ) → length xs ≤ at → after acc (bytes_of (drop at xs)) ≡ Ok acc
-  bytes_done acc h = at_drop_all (λ ys. after acc (bytes_of ys)) xs at h ∙ ap Ok (append-nil acc)
 
 digit_back : (n : ℕ) → n < 16 → digit_of (char_of n) ≡ Ok n
 digit_back n h = grind (arith, nat_tests)

@@ -1,5 +1,5 @@
 -- Hexadecimal text and the bytes that it stands for. Assumes nothing.
-use Rattle.std.specs.Prelude.{◌≡◌, ℕ, ◌+◌, ◌-◌, ◌*◌, ◌/◌, ◌%◌, ◌<◌, Bool, cond, ◌&&◌, List, [], ◌∷◌, length, Ok, Err, vec_items, Result, Vec, nat_le, nat_lt, slice_index}
+use Rattle.std.specs.Prelude.{◌≡◌, ℕ, ◌+◌, ◌-◌, ◌*◌, ◌/◌, ◌%◌, ◌<◌, Bool, cond, ◌&&◌, List, [], ◌∷◌, Ok, Err, vec_items, Result, Vec, nat_le, nat_lt}
 use Rattle.std.specs.List.{AllByRecursion}
 use Rattle.std.specs.declared.alloc.Global.{Global}
 use Rattle.hex_text.specs.declared.HexFault.{HexFault}
@@ -29,10 +29,6 @@ abbrev pub bytes_of : List ℕ → Result (List ℕ) HexFault
 bytes_of [] = Ok []
 bytes_of (a ∷ []) = Err (fault_alone (digit_of a))
 bytes_of (a ∷ b ∷ cs) = then (byte_of a b) (λ n. then (bytes_of cs) (λ bs. Ok (n ∷ bs)))
-
--- the byte whose first digit stands at an index
-abbrev pub byte_at : List ℕ → ℕ → Result ℕ HexFault
-byte_at xs at = cond (nat_le (at + 2) (length xs)) (byte_of (slice_index xs at) (slice_index xs (at + 1))) (Err (fault_alone (digit_of (slice_index xs at))))
 
 -- r is what the text says, but for a want of memory
 abbrev pub Says : Result (List ℕ) HexFault → Result (Vec ℕ Global) HexFault → Type 0

@@ -1,13 +1,15 @@
 // Hexadecimal text and the bytes that it stands for, two digits a byte.
 #![tactic(auto)]
 
-ghost use Rattle.std.specs.Prelude.{◌≡◌, ◌+◌, ◌<◌, ◌≤◌, length, IfOk, string_bytes, OnOk};
+ghost use Rattle.std.specs.Prelude.{◌≡◌, ◌<◌, IfOk, string_bytes};
 ghost use Rattle.hex_text.specs.declared.HexFault.TheVariants.{Memory};
-ghost use Rattle.hex_text.specs.Hex.{digit_of, byte_at, bytes_of, Says, char_of, text_of, ReadsBack};
+ghost use Rattle.hex_text.specs.Hex.{digit_of, byte_of, bytes_of, Says, text_of, ReadsBack};
 
 use std::alloc::{AllocError, AllocFailed, Global};
+use std::error::Error;
+use std::fmt::{self, Write};
 
-#[derive(Clone, Copy)]
+#[derive(Clone, Copy, Debug, PartialEq, Eq)]
 pub enum HexFault {
     // A character is no hexadecimal digit.
     Digit,
@@ -16,6 +18,18 @@ pub enum HexFault {
     // There is no memory for the bytes.
     Memory,
 }
+
+impl fmt::Display for HexFault {
+    fn fmt<W: fmt::Write>(&self, f: &mut fmt::Formatter<W>) -> fmt::Result {
+        f.write_str(match self {
+            HexFault::Digit => "not hexadecimal",
+            HexFault::Odd => "odd number of digits",
+            HexFault::Memory => "out of memory",
+        })
+    }
+}
+
+impl Error for HexFault {}
 
 impl<T: Drop> From<AllocFailed<T>> for HexFault {
     ghost from_gives = { λ _ r. r ≡ Memory };
@@ -29,51 +43,31 @@ fn digit(c: u8) -> Result<u8, HexFault>
     ensures value { result ≡ digit_of c }
     ensures small { IfOk result (λ d. d < 16) }
 {
-    match c {
-        b'0'..=b'9' => Ok(c - b'0'),
-        b'a'..=b'f' => Ok(c - b'a' + 10),
-        b'A'..=b'F' => Ok(c - b'A' + 10),
-        _ => Err(HexFault::Digit),
-    }
+    let d = char::from(c).to_digit(16).ok_or(HexFault::Digit)?;
+    Ok(d as u8)
 }
 
-// The byte whose first digit stands at `at`.
-fn byte_at(text: &[u8], at: usize) -> Result<u8, HexFault>
-    requires { at < length text.now }
-    ensures value { result ≡ byte_at text.now at }
-    ensures within { OnOk result (at + 2 ≤ length text.now) }
+fn byte(high: u8, low: u8) -> Result<u8, HexFault>
+    ensures { result ≡ byte_of high low }
 {
-    let high = digit(text[at])?;
-    if text.len() - at == 1 {
-        return Err(HexFault::Odd);
-    }
-    let low = digit(text[at + 1])?;
-    Ok(high * 16 + low)
+    Ok(digit(high)? * 16 + digit(low)?)
 }
 
 // The bytes of a text of digits, upper or lower case.
 pub fn decode(heap: Global, text: &[u8]) -> Result<Vec<u8>, HexFault>
     ensures { Says (bytes_of text.now) result }
 {
+    let (pairs, rest) = text.as_chunks::<2>();
     let mut bytes = Vec::new(heap);
-    let mut at = 0;
-    while at < text.len() {
-        let byte = byte_at(text, at)?;
-        bytes.push(byte)?;
-        at += 2;
+    for [high, low] in pairs {
+        bytes.push(byte(*high, *low)?)?;
     }
-    Ok(bytes)
-}
-
-fn digit_char(n: u8) -> char
-    requires { n < 16 }
-    ensures value { result ≡ char_of n }
-    ensures ascii { result < 128 }
-{
-    if n < 10 {
-        char::from(b'0' + n)
-    } else {
-        char::from(b'a' + (n - 10))
+    match rest {
+        [] => Ok(bytes),
+        [alone, ..] => {
+            digit(*alone)?;
+            Err(HexFault::Odd)
+        }
     }
 }
 
@@ -83,15 +77,12 @@ pub fn encode(heap: Global, bytes: &[u8]) -> Result<String, AllocError>
 {
     let mut text = String::new(heap);
     for b in bytes {
-        text.push(digit_char(*b / 16))?;
-        text.push(digit_char(*b % 16))?;
+        write!(text, "{b:02x}")?;
     }
     Ok(text)
 }
 
 // What `encode` writes, `decode` reads back.
-pub fn texts_read_back() -> u8
+pub fn texts_read_back()
     ensures { ReadsBack }
-{
-    0
-}
+{}

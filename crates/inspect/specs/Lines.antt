@@ -1,14 +1,14 @@
 -- What a line of the input comes to. Assumes nothing.
-use Rattle.std.specs.Prelude.{◌≡◌, ℕ, cond, ◌||◌, List, [], ◌∷◌, length, Ok, Err, Result, ◌==◌, nat_lt}
-use Rattle.std.specs.declared.alloc.AllocError.{AllocError}
+use Rattle.std.specs.Prelude.{◌≡◌, ℕ, cond, ◌||◌, List, [], ◌∷◌, length, Some, None, Ok, Err, Option, Result, IfSome, ◌==◌, nat_lt}
 use Rattle.hex_text.specs.declared.HexFault.{HexFault}
 use Rattle.hex_text.specs.declared.HexFault.TheVariants.{Digit, Odd, Memory}
 use Rattle.hex_text.specs.Hex.{bytes_of}
 use Rattle.notice.specs.declared.status.Status.{Status}
 use Rattle.request.specs.Answer.{answer_of}
 use Rattle.request.specs.Request.{Wish, wish_in}
-use Rattle.inspect.specs.declared.lines.Outcome.{Outcome}
-use Rattle.inspect.specs.declared.lines.Outcome.TheVariants as code
+use Rattle.request.specs.declared.Request.{Request}
+use Rattle.inspect.specs.declared.lines.LineFault.{LineFault}
+use Rattle.inspect.specs.declared.lines.LineFault.TheVariants as code
 
 -- an outcome, with what a request asks for as a list
 pub data OutcomeSaid : Type 0 where
@@ -38,15 +38,19 @@ abbrev pub outcome_of : List ℕ → OutcomeSaid
 outcome_of [] = passed
 outcome_of (c ∷ cs) = cond (c == 35) passed (decoded (bytes_of (c ∷ cs)))
 
-abbrev pub shown : Outcome → OutcomeSaid
-shown code.Passed = passed
-shown code.NotHex = not_hex
-shown code.OddDigits = odd_digits
-shown code.Size = size
-shown (code.Refused s) = refused s
-shown (code.Asks r) = asks (wish_in r)
+-- why a line gives no request; of a want of memory nothing is said
+abbrev pub fault_said : LineFault → Option OutcomeSaid
+fault_said (code.Hex Digit) = Some not_hex
+fault_said (code.Hex Odd) = Some odd_digits
+fault_said (code.Hex Memory) = None
+fault_said code.Size = Some size
+fault_said (code.Refused s) = Some (refused s)
+
+abbrev pub shown : Result (Option Request) LineFault → Option OutcomeSaid
+shown (Ok None) = Some passed
+shown (Ok (Some r)) = Some (asks (wish_in r))
+shown (Err f) = fault_said f
 
 -- r is that outcome, but for a want of memory
-abbrev pub ComesTo : OutcomeSaid → Result Outcome AllocError → Type 0
-ComesTo o (Ok r) = shown r ≡ o
-ComesTo o (Err e) = Unit {0}
+abbrev pub ComesTo : OutcomeSaid → Result (Option Request) LineFault → Type 0
+ComesTo o r = IfSome (shown r) (λ s. s ≡ o)

@@ -1,19 +1,20 @@
 // Reads requests as lines of hexadecimal text, and says of each what it asks for or how it is refused.
 #![tactic(auto)]
 
-use lines::{Outcome, examine_line};
+use anyhow::bail;
+use hex_text::HexFault;
+use lines::{LineFault, examine_line};
 use request::Request;
 use std::io::{BufRead, BufReader};
 
 mod lines;
 
+// Prints whole lines, by the handle of the program; what stands in them is `Display`.
 fn show_request(rt: &HostRuntime, request: &Request) -> anyhow::Result<()> {
-    let major = request.header.major;
-    let minor = request.header.minor;
-    let id = request.header.id;
-    println!(rt; "  version {major}.{minor}")?;
+    let header = request.header;
+    println!(rt; "  version {}.{}", header.major, header.minor)?;
     println!(rt; "  operation Get-Notifications")?;
-    println!(rt; "  request-id {id}")?;
+    println!(rt; "  request-id {}", header.id)?;
     for asked in request.wanted.as_slice() {
         println!(rt; "  subscription {} from number {}", asked.id, asked.lowest)?;
     }
@@ -21,36 +22,23 @@ fn show_request(rt: &HostRuntime, request: &Request) -> anyhow::Result<()> {
     Ok(())
 }
 
-fn show(rt: &HostRuntime, number: u64, outcome: Outcome) -> anyhow::Result<()> {
-    match outcome {
-        Outcome::Passed => {}
-        Outcome::NotHex => println!(rt; "line {number}: not hexadecimal")?,
-        Outcome::OddDigits => println!(rt; "line {number}: odd number of digits")?,
-        Outcome::Size => println!(rt;
-            "line {number}: declined 41, a request has 8 to 16384 bytes"
-        )?,
-        Outcome::Refused(status) => {
-            println!(rt;
-                "line {number}: status 0x{:04X} {}",
-                status.code(),
-                status.keyword()
-            )?
-        }
-        Outcome::Asks(request) => {
+fn show_line(rt: &HostRuntime, number: u64, line: &str) -> anyhow::Result<()> {
+    match examine_line(rt.alloc(), line.as_bytes()) {
+        Ok(None) => {}
+        Ok(Some(request)) => {
             println!(rt; "line {number}: request")?;
             show_request(rt, &request)?;
         }
+        Err(LineFault::Hex(HexFault::Memory)) => bail!("line {number}: {}", HexFault::Memory),
+        Err(fault) => println!(rt; "line {number}: {fault}")?,
     }
     Ok(())
 }
 
 fn main(rt: HostRuntime) -> anyhow::Result<()> {
-    let mut number = 0u64;
-    for line in BufReader::new(rt.alloc(), rt.stdin())?.lines(rt.alloc()) {
-        let line = line?;
-        number = number.saturating_add(1);
-        let found = examine_line(rt.alloc(), line.as_str().trim().as_bytes())?;
-        show(&rt, number, found)?;
+    let lines = BufReader::new(rt.alloc(), rt.stdin())?.lines(rt.alloc());
+    for (number, line) in (1..).zip(lines) {
+        show_line(&rt, number, line?.as_str().trim())?;
     }
     Ok(())
 }

@@ -1,13 +1,12 @@
 -- Each item lies behind the one before it, so a walk over them ends; one step of it. Assumes nothing.
-use Rattle.std.proofs.Common.{◌≡◌, ℕ, zero, suc, ◌-◌, ◌<◌, ◌≤◌, Bool, List, ◌∷◌, length, Some, None, Ok, Err, Option, Result, refl, ap, ◌∙◌, arith}
+use Rattle.std.proofs.Common.{◌≡◌, ℕ, zero, suc, ◌-◌, ◌<◌, ◌≤◌, Bool, List, ◌∷◌, length, Ok, Err, Result, refl, ap, ◌∙◌, arith}
 use Rattle.std.proofs.lemmas.Bool.Decides.{nat_tests}
 use Rattle.ipp.specs.declared.attributes.Fault.{Fault}
 use Rattle.ipp.specs.declared.items.Item.{Item}
 use Rattle.ipp.specs.declared.items.Item.TheVariants.{Mark, Attribute, Further, End}
-use Rattle.ipp.specs.declared.values.Value.{Value}
 use Rattle.ipp.specs.Bytes.{Run, counted_at}
 use Rattle.ipp.specs.Items.{Piece, mark, attribute, further, end, next_item, piece_of}
-use Rattle.ipp.specs.Turns.{on, run_on}
+use Rattle.ipp.specs.Turns.{on, after, run_on, run_step}
 use Rattle.ipp.specs.Walk.{opened, State, moved, turned, stepped, step, end_from, linked, gathered, at_most, items_from}
 
 counted_falls : (xs : List ℕ) (at : ℕ) (q : Run × ℕ) → counted_at xs at ≡ Ok q → (at < q.1) × (q.1 ≤ length xs)
@@ -43,6 +42,11 @@ turned_is b end n h = absurd (h refl)
 pub walk_more : (xs : List ℕ) (b : Bool) (at : ℕ) (p : Piece) (n : ℕ) (c : Bool) → next_item xs at ≡ Ok (p, n) → (p ≡ end → ⊥) → opened b p ≡ Ok c → end_from xs (b, at) ≡ end_from xs (c, n)
 unfolding end_from
 walk_more xs b at p n c i h o = run_on (step xs) _ _ (step_falls xs) (b, at) (c, n) (ap (stepped b) i ∙ turned_is b p n h ∙ ap (moved n) o)
+
+-- the law that proofs use: the walk is one step, and the walk from there
+pub walk_is : (xs : List ℕ) (b : Bool) (at : ℕ) → end_from xs (b, at) ≡ after (end_from xs) (stepped b (next_item xs at))
+unfolding end_from
+walk_is xs b at = run_step (step xs) _ _ (step_falls xs) (b, at)
 
 pub not_end : (i : Item) → (i ≡ End → ⊥) → piece_of i ≡ end → ⊥
 not_end (Mark t) h e = grind arith
@@ -80,7 +84,12 @@ module _ (xs : List ℕ) where
   unfolding items_from
   items_step at r e = ap (gathered (at_most xs (length xs - at))) e ∙ items_by at r e
 
--- how many bytes are left behind a value, and one more; 0 where there is none: this falls from a value to the next
-abbrev pub bytes_left : List ℕ → Option Value → ℕ
-bytes_left xs None = 0
-bytes_left xs (Some v) = suc (length xs - v.next)
+  -- the same, by what stands there
+  pub items_are : (at : ℕ) → items_from xs at ≡ gathered (items_from xs) (next_item xs at)
+  items_are at = items_step at (next_item xs at) refl
+
+pub linked_more : (i : Item) (is : List Piece) → (i ≡ End → ⊥) → linked (piece_of i) is ≡ piece_of i ∷ is
+linked_more i is h = linked_is (piece_of i) is (not_end i h)
+
+pub turned_more : (b : Bool) (i : Item) (n : ℕ) → (i ≡ End → ⊥) → turned b (piece_of i) n ≡ moved n (opened b (piece_of i))
+turned_more b i n h = turned_is b (piece_of i) n (not_end i h)

@@ -1,10 +1,14 @@
 -- Attributes and their values, as the items of a group give them. Assumes nothing.
-use Rattle.std.specs.Prelude.{ℕ, Bool, true, false, cond, ◌&&◌, ◌||◌, List, [], ◌∷◌, Some, None, Option, ◌==◌}
+use Rattle.std.specs.Prelude.{ℕ, Bool, true, false, cond, ◌&&◌, List, [], ◌∷◌, Some, None, Option, ◌==◌}
+use Rattle.std.specs.List.{list_any}
 use Rattle.std.specs.Str.{bytes_eq}
+use Rattle.ipp.specs.declared.items.Items.{Items}
 use Rattle.ipp.specs.declared.values.Value.{Value}
+use Rattle.ipp.specs.declared.values.Values.{Values}
 use Rattle.ipp.specs.declared.attributes.Attribute.{Attribute}
+use Rattle.ipp.specs.declared.attributes.Attributes.{Attributes}
 use Rattle.ipp.specs.Items.{Piece, mark, attribute, further, end}
-use Rattle.ipp.specs.Walk.{items_from}
+use Rattle.ipp.specs.Walk.{items_in}
 
 -- a value's tag and bytes
 abbrev pub Tagged : Type 0
@@ -52,17 +56,21 @@ is_mark g (further tag v) = false
 is_mark g end = false
 
 abbrev pub any_mark : ℕ → List Piece → Bool
-any_mark g [] = false
-any_mark g (i ∷ is) = is_mark g i || any_mark g is
+any_mark g = list_any (is_mark g)
 
--- what a value that was read, and an attribute that was read, say of those from there on
+-- what the code's values and attributes stand for: a value, the values that are left, an attribute, the attributes that are left
 abbrev pub tagged : Value → Tagged
 tagged v = (v.tag, v.bytes.now)
 
-abbrev pub values_at : List ℕ → Option Value → List Tagged
-values_at xs None = []
-values_at xs (Some v) = tagged v ∷ furthers (items_from xs v.next)
+abbrev pub values_from : Option (Value × Items) → List Tagged
+values_from None = []
+values_from (Some p) = tagged p.0 ∷ furthers (items_in p.1)
 
-abbrev pub attributes_at : List ℕ → Option Attribute → List Named
-attributes_at xs None = []
-attributes_at xs (Some a) = record { name = a.name.now; values = values_at xs (Some a.first) } ∷ attributes (items_from xs a.first.next)
+abbrev pub values_in : Values → List Tagged
+values_in v = values_from v.next
+
+abbrev pub named_of : Attribute → Named
+named_of a = record { name = a.name.now; values = values_in a.values }
+
+abbrev pub attributes_in : Attributes → List Named
+attributes_in a = attributes (items_in a.items)

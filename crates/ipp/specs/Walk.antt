@@ -1,10 +1,10 @@
 -- The items of a request, one after another. Assumes nothing.
-use Rattle.std.specs.Prelude.{ℕ, zero, suc, ◌-◌, Bool, true, false, cond, List, [], ◌∷◌, length, Some, None, Ok, Err, Option, Result}
+use Rattle.std.specs.Prelude.{ℕ, zero, suc, ◌-◌, Bool, true, false, cond, List, [], ◌∷◌, length, Ok, Err, Result}
 use Rattle.ipp.specs.declared.bytes.Fault.TheVariants as lows
 use Rattle.ipp.specs.declared.attributes.Fault.{Fault}
 use Rattle.ipp.specs.declared.attributes.Fault.TheVariants.{Bytes, StrayValue}
-use Rattle.ipp.specs.declared.items.Item.{Item}
-use Rattle.ipp.specs.Items.{Piece, mark, attribute, further, end, next_item, piece_of}
+use Rattle.ipp.specs.declared.items.Items.{Items}
+use Rattle.ipp.specs.Items.{Piece, mark, attribute, further, end, next_item}
 use Rattle.ipp.specs.Turns.{Next, on, done, run}
 
 -- whether an attribute of the group stands before the next item; a further value must have one
@@ -58,7 +58,6 @@ at_most xs (suc n) at = gathered (at_most xs n) (next_item xs at)
 unfoldable pub items_from : List ℕ → ℕ → List Piece
 items_from xs at = at_most xs (suc (length xs - at)) at
 
--- what a look at one item says of the items from there on
-abbrev pub listed : List ℕ → Option (Item × ℕ) → List Piece
-listed xs None = []
-listed xs (Some q) = piece_of q.0 ∷ items_from xs q.1
+-- what is left of the items
+abbrev pub items_in : Items → List Piece
+items_in i = items_from i.src.now i.at

@@ -1,15 +1,17 @@
 // The attributes of a group.
-ghost use Rattle.std.specs.Prelude.{◌≡◌, ◌<◌, ◌≤◌, length, IfSome};
-ghost use Rattle.std.specs.Str.{bytes_eq};
+ghost use Rattle.std.specs.Prelude.{◌≡◌};
+ghost use Rattle.std.specs.Iterator.{YieldsFirstBy, item_count};
 ghost use Rattle.ipp.specs.declared.attributes.Fault.TheVariants.{Bytes};
-ghost use Rattle.ipp.specs.Attributes.{attributes, attributes_at, distinct_names, values_at, values_of};
-ghost use Rattle.ipp.specs.Walk.{items_from};
+ghost use Rattle.ipp.specs.Attributes.{attributes, attributes_in, distinct_names, named_of, values_in, values_of};
+ghost use Rattle.ipp.specs.Walk.{items_in};
 
 use crate::bytes;
-use crate::items::{Item, item_at};
-use crate::values::Value;
+use crate::items::{Item, Items};
+use crate::values::{Value, Values};
+use std::error::Error;
+use std::fmt;
 
-#[derive(Clone, Copy)]
+#[derive(Clone, Copy, Debug, PartialEq, Eq)]
 pub enum Fault {
     // a fault of the bytes below
     Bytes(bytes::Fault),
@@ -21,6 +23,7 @@ pub enum Fault {
     Value,
 }
 
+// Written out, as the like of the other errors: a derived one would not say which fault it gives.
 impl From<bytes::Fault> for Fault {
     ghost from_gives = { λ e r. r ≡ Bytes e };
 
@@ -29,70 +32,91 @@ impl From<bytes::Fault> for Fault {
     }
 }
 
-// An attribute, by its name and its first value.
-#[derive(Clone, Copy)]
+impl fmt::Display for Fault {
+    fn fmt<W: fmt::Write>(&self, f: &mut fmt::Formatter<W>) -> fmt::Result {
+        match self {
+            Fault::Bytes(e) => e.fmt(f),
+            Fault::ZeroTag => f.write_str("an item begins with 0x00"),
+            Fault::StrayValue => f.write_str("a further value with no attribute before it"),
+            Fault::Value => f.write_str("a value of the wrong form"),
+        }
+    }
+}
+
+impl Error for Fault {}
+
+#[derive(Clone, Copy, Debug)]
 pub struct Attribute<'a> {
     pub name: &'a [u8],
-    pub first: Value<'a>,
+    pub values: Values<'a>,
 }
 
-// Whether two names are the same.
-pub fn same(a: &[u8], b: &[u8]) -> bool
-    ensures { result ≡ bytes_eq a.now b.now }
-{
-    a == b
+// The attributes of a group, from an item on.
+#[derive(Clone, Copy, Debug)]
+pub struct Attributes<'a> {
+    items: Items<'a>,
 }
 
-// The first attribute from `start` on in the group there.
-pub fn next_attribute<'a>(src: &'a [u8], start: usize) -> Option<Attribute<'a>>
-    ensures attributes { attributes_at src.now result ≡ attributes (items_from src.now start) }
-    ensures within { IfSome result (λ a. (start < a.first.next) × (a.first.next ≤ length src.now)) }
-{
-    let mut at = start;
-    while let Some((item, next)) = item_at(src, at) {
-        match item {
-            Item::Attribute { tag, name, value } => {
-                return Some(Attribute {
-                    name: name.bytes,
-                    first: Value {
+impl<'a> Attributes<'a> {
+    // Those up to the next group mark.
+    pub fn new(items: Items<'a>) -> Attributes<'a>
+        ensures { attributes_in result ≡ attributes (items_in items.entry) }
+    {
+        Attributes { items }
+    }
+
+    // The values of the first attribute of that name; none where there is no such attribute.
+    pub fn find_values(self, name: &[u8]) -> Values<'a>
+        ensures { values_in result ≡ values_of name.now (attributes_in self.entry) }
+    {
+        for attribute in self {
+            if attribute.name == name {
+                return attribute.values;
+            }
+        }
+        Values::none()
+    }
+
+    // Whether no name stands twice.
+    pub fn names_differ(mut self) -> bool
+        ensures { result ≡ distinct_names (attributes_in self.entry) }
+    {
+        while let Some(attribute) = self.next() {
+            if self.find_values(attribute.name).first().is_some() {
+                return false;
+            }
+        }
+        true
+    }
+}
+
+impl<'a> Iterator for Attributes<'a> {
+    type Item = Attribute<'a>;
+
+    ghost next_gives = { YieldsFirstBy named_of attributes_in };
+
+    ghost remaining = { item_count attributes_in };
+
+    // The walk does not go past the mark behind the group, so that nothing comes after the last attribute.
+    fn next(&mut self) -> Option<Attribute<'a>> {
+        let mut items = self.items;
+        while let Some(item) = items.next() {
+            match item {
+                Item::Attribute { tag, name, value } => {
+                    let first = Value {
                         tag,
                         bytes: value.bytes,
-                        next,
-                    },
-                });
+                    };
+                    self.items = items;
+                    return Some(Attribute {
+                        name: name.bytes,
+                        values: Values::new(first, items),
+                    });
+                }
+                Item::Further { .. } => {}
+                _ => return None,
             }
-            Item::Further { tag: _, value: _ } => {}
-            _ => return None,
         }
-        at = next;
+        None
     }
-    None
-}
-
-// The first value of the first attribute of that name, from `start` on in the group there.
-pub fn find_values<'a>(src: &'a [u8], start: usize, name: &[u8]) -> Option<Value<'a>>
-    ensures { values_at src.now result ≡ values_of name.now (attributes (items_from src.now start)) }
-{
-    let mut at = start;
-    while let Some(attribute) = next_attribute(src, at) {
-        if same(attribute.name, name) {
-            return Some(attribute.first);
-        }
-        at = attribute.first.next;
-    }
-    None
-}
-
-// Whether no name stands twice, from `start` on in the group there.
-pub fn names_differ(src: &[u8], start: usize) -> bool
-    ensures { result ≡ distinct_names (attributes (items_from src.now start)) }
-{
-    let mut at = start;
-    while let Some(attribute) = next_attribute(src, at) {
-        at = attribute.first.next;
-        if find_values(src, at, attribute.name).is_some() {
-            return false;
-        }
-    }
-    true
 }

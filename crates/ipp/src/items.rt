@@ -1,14 +1,16 @@
 // The items of a request: group marks, attributes, further values and the end.
-ghost use Rattle.std.specs.Prelude.{◌≡◌, ◌<◌, ◌≤◌, false, length, IfSome};
+ghost use Rattle.std.specs.Prelude.{◌≡◌, ◌<◌, ◌≤◌, ◌+◌, false, length, IfOk};
+ghost use Rattle.std.specs.Iterator.{YieldsFirstBy, item_count};
 ghost use Rattle.ipp.specs.Attributes.{any_mark, is_mark};
-ghost use Rattle.ipp.specs.Items.{shown, next_item, piece_of};
-ghost use Rattle.ipp.specs.Walk.{opened, end_from, items_from, listed};
+ghost use Rattle.ipp.specs.declared.attributes.Fault.TheVariants.{Bytes};
+ghost use Rattle.ipp.specs.Bytes.{counted_at};
+ghost use Rattle.ipp.specs.Items.{shown, next_item, piece_of, then, valued};
+ghost use Rattle.ipp.specs.Walk.{opened, end_from, items_from, items_in};
 
 use crate::attributes::Fault;
-use crate::bytes;
-use crate::bytes::{Part, counted};
+use crate::bytes::{self, Part, counted};
 
-#[derive(Clone, Copy)]
+#[derive(Clone, Copy, Debug, PartialEq, Eq)]
 pub enum Item<'a> {
     // a group begins
     Mark(u8),
@@ -27,50 +29,91 @@ pub enum Item<'a> {
     End,
 }
 
+impl<'a> Item<'a> {
+    // Whether it is that group mark.
+    pub fn is_mark(self, mark: u8) -> bool
+        ensures { result ≡ is_mark mark (piece_of self.entry) }
+    {
+        matches!(self, Item::Mark(m) if m == mark)
+    }
+}
+
 pub const END: u8 = 0x03;
 
-// Tags of values begin here; below stand the marks of groups and of the end.
+// Tags of values begin here; below stand the marks of groups and of the end. They stay numbers, since
+// a message may have any of them.
 pub const FIRST_VALUE_TAG: u8 = 0x10;
 
 // The item at `at`, with the place past it.
 pub fn next_item<'a>(src: &'a [u8], at: usize) -> Result<(Item<'a>, usize), Fault>
-    ensures { shown result ≡ next_item src.now at }
+    ensures item { shown result ≡ next_item src.now at }
+    ensures within { IfOk result (λ q. (at < q.1) × (q.1 ≤ length src.now)) }
 {
-    if at >= src.len() {
+    let Some(tag) = src.get(at).copied() else {
         return Err(Fault::Bytes(bytes::Fault::CutShort));
-    }
-    let tag = src[at];
-    if tag == 0 {
-        return Err(Fault::ZeroTag);
-    }
-    if tag == END {
-        return Ok((Item::End, at + 1));
-    }
-    if tag < FIRST_VALUE_TAG {
-        return Ok((Item::Mark(tag), at + 1));
-    }
-    let (name, middle) = counted(src, at + 1)?;
-    let (value, next) = counted(src, middle)?;
-    if name.bytes.len() == 0 {
-        Ok((Item::Further { tag, value }, next))
-    } else {
-        Ok((Item::Attribute { tag, name, value }, next))
+    };
+    match tag {
+        0x00 => Err(Fault::ZeroTag),
+        END => Ok((Item::End, at + 1)),
+        0x01..FIRST_VALUE_TAG => Ok((Item::Mark(tag), at + 1)),
+        _ => next_value(src, at, tag),
     }
 }
 
-// The item at `at` with the place past it; nothing where the end stands or no item can be read.
-pub fn item_at<'a>(src: &'a [u8], at: usize) -> Option<(Item<'a>, usize)>
-    ensures items { listed src.now result ≡ items_from src.now at }
-    ensures within { IfSome result (λ q. (at < q.1) × (q.1 ≤ length src.now)) }
+// The item of that tag at `at`: an attribute, or with an empty name a further value.
+fn next_value<'a>(src: &'a [u8], at: usize, tag: u8) -> Result<(Item<'a>, usize), Fault>
+    requires { at < length src.now }
+    ensures { shown result ≡ then Bytes (counted_at src.now (at + 1)) (λ n. then Bytes (counted_at src.now n.1) (valued tag n)) }
 {
-    match next_item(src, at) {
-        Err(_) => None,
-        Ok((item, next)) => {
-            if let Item::End = item {
-                return None;
-            }
-            Some((item, next))
+    let (name, middle) = counted(src, at + 1)?;
+    let (value, next) = counted(src, middle)?;
+    let item = if name.bytes.is_empty() {
+        Item::Further { tag, value }
+    } else {
+        Item::Attribute { tag, name, value }
+    };
+    Ok((item, next))
+}
+
+// The items from a place on, up to the end or to where none can be read. It is copied to walk from there again.
+#[derive(Clone, Copy, Debug)]
+pub struct Items<'a> {
+    src: &'a [u8],
+    at: usize,
+}
+
+impl<'a> Items<'a> {
+    pub fn new(src: &'a [u8], at: usize) -> Items<'a>
+        ensures { items_in result ≡ items_from src.now at }
+    {
+        Items { src, at }
+    }
+
+    // Whether a group with that mark begins there.
+    pub fn has_group(mut self, mark: u8) -> bool
+        ensures { result ≡ any_mark mark (items_in self.entry) }
+    {
+        self.any(|item| item.is_mark(mark))
+    }
+}
+
+impl<'a> Iterator for Items<'a> {
+    type Item = Item<'a>;
+
+    ghost next_gives = { YieldsFirstBy piece_of items_in };
+
+    ghost remaining = { item_count items_in };
+
+    #[tactic(auto, using(crate::proofs::Walking::items_are, crate::proofs::Walking::linked_more))]
+    fn next(&mut self) -> Option<Item<'a>> {
+        let Ok((item, next)) = next_item(self.src, self.at) else {
+            return None;
+        };
+        if let Item::End = item {
+            return None;
         }
+        self.at = next;
+        Some(item)
     }
 }
 
@@ -80,28 +123,21 @@ fn opens(before: bool, item: Item) -> Result<bool, Fault>
 {
     match item {
         Item::Mark(_) => Ok(false),
-        Item::Attribute {
-            tag: _,
-            name: _,
-            value: _,
-        } => Ok(true),
-        Item::Further { tag: _, value: _ } => {
-            if before {
-                Ok(true)
-            } else {
-                Err(Fault::StrayValue)
-            }
-        }
+        Item::Attribute { .. } => Ok(true),
+        Item::Further { .. } if before => Ok(true),
+        Item::Further { .. } => Err(Fault::StrayValue),
         Item::End => Ok(before),
     }
 }
 
 // Walks over all items from `start` up to the end, and answers the place past that; or the first fault.
+#[tactic(auto, using(crate::proofs::Walking::walk_is, crate::proofs::Walking::turned_more))]
 pub fn check_items(src: &[u8], start: usize) -> Result<usize, Fault>
     ensures { result ≡ end_from src.now (false, start) }
 {
     let mut open = false;
     let mut at = start;
+    // no iterator: it ends with the place past the end item, or with a fault
     loop {
         let (item, next) = next_item(src, at)?;
         if let Item::End = item {
@@ -110,28 +146,4 @@ pub fn check_items(src: &[u8], start: usize) -> Result<usize, Fault>
         open = opens(open, item)?;
         at = next;
     }
-}
-
-// Whether `item` is that group mark.
-pub fn is_mark(item: Item, mark: u8) -> bool
-    ensures { result ≡ is_mark mark (piece_of item.entry) }
-{
-    match item {
-        Item::Mark(m) => m == mark,
-        _ => false,
-    }
-}
-
-// Whether a group with that mark begins at `start` or behind it.
-pub fn has_group(src: &[u8], start: usize, mark: u8) -> bool
-    ensures { result ≡ any_mark mark (items_from src.now start) }
-{
-    let mut at = start;
-    while let Some((item, next)) = item_at(src, at) {
-        if is_mark(item, mark) {
-            return true;
-        }
-        at = next;
-    }
-    false
 }

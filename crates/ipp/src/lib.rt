@@ -3,6 +3,5 @@
 
 pub mod attributes;
 pub mod bytes;
-pub mod conditions;
 pub mod items;
 pub mod values;

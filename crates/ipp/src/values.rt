@@ -1,33 +1,104 @@
 // The values of an attribute.
-ghost use Rattle.std.specs.Prelude.{◌≡◌, ◌<◌, ◌≤◌, length, IfSome};
-ghost use Rattle.ipp.specs.Attributes.{furthers, values_at};
+ghost use Rattle.std.specs.Prelude.{◌≡◌, not, [], ◌∷◌, option_map, slice_get, ◌==◌};
+ghost use Rattle.std.specs.Iterator.{YieldsFirstBy, item_count};
+ghost use Rattle.std.specs.List.{list_all};
+ghost use Rattle.ipp.specs.Attributes.{furthers, tagged, values_in};
+ghost use Rattle.ipp.specs.Conditions.{distinct_numbers, number_in};
 ghost use Rattle.ipp.specs.Values.{boolean_of, integer_of, positive_of};
-ghost use Rattle.ipp.specs.Walk.{items_from};
+ghost use Rattle.ipp.specs.Walk.{items_in};
 
 use crate::attributes::Fault;
-use crate::items::{Item, item_at};
+use crate::items::{Item, Items};
 
-// A value, with the place of the item behind it.
-#[derive(Clone, Copy)]
+#[derive(Clone, Copy, Debug, PartialEq, Eq)]
 pub struct Value<'a> {
     pub tag: u8,
     pub bytes: &'a [u8],
-    pub next: usize,
 }
 
-// The further value at `at`, if one stands there.
-pub fn further_value<'a>(src: &'a [u8], at: usize) -> Option<Value<'a>>
-    ensures values { values_at src.now result ≡ furthers (items_from src.now at) }
-    ensures within { IfSome result (λ v. (at < v.next) × (v.next ≤ length src.now)) }
+impl Value<'_> {
+    // Whether its number is another than `n`.
+    fn differs_from(self, n: u32) -> bool
+        ensures { result ≡ not (number_in self.entry.bytes.now == n) }
+    {
+        number(self.bytes) != n
+    }
+}
+
+// The values of an attribute from one on: that value with the items behind it, if one is left.
+#[derive(Clone, Copy, Debug)]
+pub struct Values<'a> {
+    next: Option<(Value<'a>, Items<'a>)>,
+}
+
+impl<'a> Values<'a> {
+    // A value, and the further values that the items behind it begin with.
+    pub fn new(first: Value<'a>, behind: Items<'a>) -> Values<'a>
+        ensures { values_in result ≡ tagged first.entry ∷ furthers (items_in behind.entry) }
+    {
+        Values {
+            next: Some((first, behind)),
+        }
+    }
+
+    pub fn none() -> Values<'a>
+        ensures { values_in result ≡ [] }
+    {
+        Values { next: None }
+    }
+
+    // The first of those that are left.
+    pub fn first(&self) -> Option<Value<'a>>
+        ensures { option_map tagged result ≡ slice_get (values_in self.now) 0 }
+    {
+        let (first, _) = self.next?;
+        Some(first)
+    }
+
+    // Whether no number stands twice among them.
+    pub fn numbers_differ(mut self) -> bool
+        ensures { result ≡ distinct_numbers (values_in self.entry) }
+    {
+        while let Some(value) = self.next() {
+            if !self.all_differ_from(number(value.bytes)) {
+                return false;
+            }
+        }
+        true
+    }
+
+    // Whether each number among them is another than `n`.
+    fn all_differ_from(mut self, n: u32) -> bool
+        ensures { result ≡ list_all (λ v. not (number_in v.1 == n)) (values_in self.entry) }
+    {
+        self.all(|value| value.differs_from(n))
+    }
+}
+
+impl<'a> Iterator for Values<'a> {
+    type Item = Value<'a>;
+
+    ghost next_gives = { YieldsFirstBy tagged values_in };
+
+    ghost remaining = { item_count values_in };
+
+    fn next(&mut self) -> Option<Value<'a>> {
+        let (value, behind) = self.next?;
+        *self = further_values(behind);
+        Some(value)
+    }
+}
+
+// The further values that the items begin with.
+fn further_values<'a>(mut items: Items<'a>) -> Values<'a>
+    ensures { values_in result ≡ furthers (items_in items.entry) }
 {
-    let (item, next) = item_at(src, at)?;
-    match item {
-        Item::Further { tag, value } => Some(Value {
-            tag,
-            bytes: value.bytes,
-            next,
-        }),
-        _ => None,
+    match items.next() {
+        Some(Item::Further { tag, value }) => {
+            let bytes = value.bytes;
+            Values::new(Value { tag, bytes }, items)
+        }
+        _ => Values::none(),
     }
 }
 
@@ -59,4 +130,12 @@ pub fn positive(bytes: &[u8]) -> Result<u32, Fault>
         return Err(Fault::Value);
     }
     Ok(n as u32)
+}
+
+// The number in a value that is an integer from 1 on; 0 in any other. 0 is no such
+// integer, so a plain number says as much as an Option, and two of them are compared at once.
+pub fn number(bytes: &[u8]) -> u32
+    ensures { result ≡ number_in bytes.now }
+{
+    positive(bytes).unwrap_or(0)
 }

@@ -1,2 +1,2 @@
 mod Tables
-mod Worths
+pub mod Worths

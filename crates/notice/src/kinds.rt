@@ -1,22 +1,65 @@
 // The kinds of event, with the numbers 1 to 8 and their keywords.
-ghost use Rattle.std.specs.Prelude.{◌≡◌};
+ghost use Rattle.std.specs.Prelude.{◌≡◌, Some};
+ghost use Rattle.notice.specs.Tables.{read_by};
 ghost use Rattle.notice.specs.Kinds.{printer_kind_keyword, job_kind_keyword, kind_keyword};
 ghost use Rattle.notice.specs.Kinds.{kind_number, kind_of_number, kind_broader, of_job, KindNumbers};
 
-#[derive(Clone, Copy)]
+use crate::numbers::UnknownNumber;
+use std::fmt;
+
+#[derive(Clone, Copy, Debug, PartialEq, Eq)]
 pub enum PrinterKind {
-    StateChanged,
-    Stopped,
-    ConfigChanged,
+    StateChanged = 1,
+    Stopped = 2,
+    ConfigChanged = 3,
 }
 
-#[derive(Clone, Copy)]
+#[derive(Clone, Copy, Debug, PartialEq, Eq)]
 pub enum JobKind {
-    StateChanged,
-    Created,
-    Completed,
-    Stopped,
-    Progress,
+    StateChanged = 4,
+    Created = 5,
+    Completed = 6,
+    Stopped = 7,
+    Progress = 8,
+}
+
+// An event is of the printer or of a job.
+#[derive(Clone, Copy, Debug, PartialEq, Eq)]
+pub enum Kind {
+    Printer(PrinterKind),
+    Job(JobKind),
+}
+
+impl From<Kind> for u32 {
+    ghost from_gives = { λ k n. n ≡ kind_number k };
+
+    fn from(kind: Kind) -> u32 {
+        match kind {
+            Kind::Printer(k) => k as u32,
+            Kind::Job(k) => k as u32,
+        }
+    }
+}
+
+// A match for each type: a list of its cases and a search in it would be no shorter.
+impl TryFrom<u32> for Kind {
+    type Error = UnknownNumber;
+
+    ghost try_from_gives = { λ n r. r ≡ read_by kind_of_number n };
+
+    fn try_from(n: u32) -> Result<Kind, UnknownNumber> {
+        match n {
+            1 => Ok(Kind::Printer(PrinterKind::StateChanged)),
+            2 => Ok(Kind::Printer(PrinterKind::Stopped)),
+            3 => Ok(Kind::Printer(PrinterKind::ConfigChanged)),
+            4 => Ok(Kind::Job(JobKind::StateChanged)),
+            5 => Ok(Kind::Job(JobKind::Created)),
+            6 => Ok(Kind::Job(JobKind::Completed)),
+            7 => Ok(Kind::Job(JobKind::Stopped)),
+            8 => Ok(Kind::Job(JobKind::Progress)),
+            _ => Err(UnknownNumber(n)),
+        }
+    }
 }
 
 impl PrinterKind {
@@ -45,46 +88,7 @@ impl JobKind {
     }
 }
 
-// An event is of the printer or of a job.
-#[derive(Clone, Copy)]
-pub enum Kind {
-    Printer(PrinterKind),
-    Job(JobKind),
-}
-
 impl Kind {
-    pub fn number(self) -> u32
-        ensures { result ≡ kind_number self }
-    {
-        match self {
-            Kind::Printer(PrinterKind::StateChanged) => 1,
-            Kind::Printer(PrinterKind::Stopped) => 2,
-            Kind::Printer(PrinterKind::ConfigChanged) => 3,
-            Kind::Job(JobKind::StateChanged) => 4,
-            Kind::Job(JobKind::Created) => 5,
-            Kind::Job(JobKind::Completed) => 6,
-            Kind::Job(JobKind::Stopped) => 7,
-            Kind::Job(JobKind::Progress) => 8,
-        }
-    }
-
-    // The kind with this number, if there is one.
-    pub fn from_number(n: u32) -> Option<Kind>
-        ensures { result ≡ kind_of_number n }
-    {
-        match n {
-            1 => Some(Kind::Printer(PrinterKind::StateChanged)),
-            2 => Some(Kind::Printer(PrinterKind::Stopped)),
-            3 => Some(Kind::Printer(PrinterKind::ConfigChanged)),
-            4 => Some(Kind::Job(JobKind::StateChanged)),
-            5 => Some(Kind::Job(JobKind::Created)),
-            6 => Some(Kind::Job(JobKind::Completed)),
-            7 => Some(Kind::Job(JobKind::Stopped)),
-            8 => Some(Kind::Job(JobKind::Progress)),
-            _ => None,
-        }
-    }
-
     pub fn keyword(self) -> &'static str
         ensures { result.now ≡ kind_keyword self }
     {
@@ -100,9 +104,9 @@ impl Kind {
     {
         match self {
             Kind::Printer(PrinterKind::Stopped) => Some(Kind::Printer(PrinterKind::StateChanged)),
-            Kind::Job(JobKind::Created) => Some(Kind::Job(JobKind::StateChanged)),
-            Kind::Job(JobKind::Completed) => Some(Kind::Job(JobKind::StateChanged)),
-            Kind::Job(JobKind::Stopped) => Some(Kind::Job(JobKind::StateChanged)),
+            Kind::Job(JobKind::Created | JobKind::Completed | JobKind::Stopped) => {
+                Some(Kind::Job(JobKind::StateChanged))
+            }
             _ => None,
         }
     }
@@ -110,16 +114,36 @@ impl Kind {
     pub fn is_job(self) -> bool
         ensures { result ≡ of_job self }
     {
-        match self {
-            Kind::Printer(_) => false,
-            Kind::Job(_) => true,
-        }
+        matches!(self, Kind::Job(_))
+    }
+}
+
+// One for each type: no impl of Display can stand for every type that has a keyword.
+impl fmt::Display for PrinterKind {
+    ghost output = { λ k. Some (printer_kind_keyword k) };
+
+    fn fmt<W: fmt::Write>(&self, f: &mut fmt::Formatter<W>) -> fmt::Result {
+        f.write_str(self.keyword())
+    }
+}
+
+impl fmt::Display for JobKind {
+    ghost output = { λ k. Some (job_kind_keyword k) };
+
+    fn fmt<W: fmt::Write>(&self, f: &mut fmt::Formatter<W>) -> fmt::Result {
+        f.write_str(self.keyword())
+    }
+}
+
+impl fmt::Display for Kind {
+    ghost output = { λ k. Some (kind_keyword k) };
+
+    fn fmt<W: fmt::Write>(&self, f: &mut fmt::Formatter<W>) -> fmt::Result {
+        f.write_str(self.keyword())
     }
 }
 
 // A kind and its number stand for each other.
-pub fn kind_numbers_stand() -> u8
+pub fn kind_numbers_stand()
     ensures { KindNumbers }
-{
-    0
-}
+{}

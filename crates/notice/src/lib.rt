@@ -5,14 +5,16 @@
 pub mod decline;
 pub mod event;
 pub mod kinds;
+pub mod numbers;
 pub mod reasons;
 pub mod sets;
 pub mod states;
 pub mod status;
 
 pub use decline::Decline;
-pub use event::{Event, JobEvent, Notice, PrinterEvent};
+pub use event::{Event, EventNumbers, JobEvent, Notice, PrinterEvent};
 pub use kinds::{JobKind, Kind, PrinterKind};
+pub use numbers::UnknownNumber;
 pub use reasons::{JobReason, PrinterReason};
 pub use sets::KindSet;
 pub use states::{JobState, PrinterState};

@@ -1,5 +1,6 @@
 // The reasons of a state, of a job and of the printer, with their numbers and keywords.
-ghost use Rattle.std.specs.Prelude.{◌≡◌};
+ghost use Rattle.std.specs.Prelude.{◌≡◌, Some};
+ghost use Rattle.notice.specs.Tables.{read_by};
 ghost use Rattle.notice.specs.Reasons.{
   job_reason_number,
   job_reason_of_number,
@@ -10,44 +11,47 @@ ghost use Rattle.notice.specs.Reasons.{
   ReasonNumbers,
 };
 
-#[derive(Clone, Copy)]
+use crate::numbers::UnknownNumber;
+use std::fmt;
+
+#[derive(Clone, Copy, Debug, PartialEq, Eq)]
 pub enum JobReason {
-    None,
-    Incoming,
-    Printing,
-    CompletedSuccessfully,
-    CanceledByUser,
-    AbortedBySystem,
+    None = 0,
+    Incoming = 1,
+    Printing = 2,
+    CompletedSuccessfully = 3,
+    CanceledByUser = 4,
+    AbortedBySystem = 5,
+}
+
+impl From<JobReason> for u32 {
+    ghost from_gives = { λ r n. n ≡ job_reason_number r };
+
+    fn from(reason: JobReason) -> u32 {
+        reason as u32
+    }
+}
+
+// A match for each type: a list of its cases and a search in it would be no shorter.
+impl TryFrom<u32> for JobReason {
+    type Error = UnknownNumber;
+
+    ghost try_from_gives = { λ n r. r ≡ read_by job_reason_of_number n };
+
+    fn try_from(n: u32) -> Result<JobReason, UnknownNumber> {
+        match n {
+            0 => Ok(JobReason::None),
+            1 => Ok(JobReason::Incoming),
+            2 => Ok(JobReason::Printing),
+            3 => Ok(JobReason::CompletedSuccessfully),
+            4 => Ok(JobReason::CanceledByUser),
+            5 => Ok(JobReason::AbortedBySystem),
+            _ => Err(UnknownNumber(n)),
+        }
+    }
 }
 
 impl JobReason {
-    pub fn number(self) -> u32
-        ensures { result ≡ job_reason_number self }
-    {
-        match self {
-            JobReason::None => 0,
-            JobReason::Incoming => 1,
-            JobReason::Printing => 2,
-            JobReason::CompletedSuccessfully => 3,
-            JobReason::CanceledByUser => 4,
-            JobReason::AbortedBySystem => 5,
-        }
-    }
-
-    pub fn from_number(n: u32) -> Option<JobReason>
-        ensures { result ≡ job_reason_of_number n }
-    {
-        match n {
-            0 => Some(JobReason::None),
-            1 => Some(JobReason::Incoming),
-            2 => Some(JobReason::Printing),
-            3 => Some(JobReason::CompletedSuccessfully),
-            4 => Some(JobReason::CanceledByUser),
-            5 => Some(JobReason::AbortedBySystem),
-            _ => None,
-        }
-    }
-
     pub fn keyword(self) -> &'static str
         ensures { result.now ≡ job_reason_keyword self }
     {
@@ -62,44 +66,52 @@ impl JobReason {
     }
 }
 
-#[derive(Clone, Copy)]
+// One for each type: no impl of Display can stand for every type that has a keyword.
+impl fmt::Display for JobReason {
+    ghost output = { λ r. Some (job_reason_keyword r) };
+
+    fn fmt<W: fmt::Write>(&self, f: &mut fmt::Formatter<W>) -> fmt::Result {
+        f.write_str(self.keyword())
+    }
+}
+
+#[derive(Clone, Copy, Debug, PartialEq, Eq)]
 pub enum PrinterReason {
-    None,
-    Paused,
-    MediaEmpty,
-    MediaJam,
-    DoorOpen,
-    TonerEmpty,
+    None = 0,
+    Paused = 1,
+    MediaEmpty = 2,
+    MediaJam = 3,
+    DoorOpen = 4,
+    TonerEmpty = 5,
+}
+
+impl From<PrinterReason> for u32 {
+    ghost from_gives = { λ r n. n ≡ printer_reason_number r };
+
+    fn from(reason: PrinterReason) -> u32 {
+        reason as u32
+    }
+}
+
+impl TryFrom<u32> for PrinterReason {
+    type Error = UnknownNumber;
+
+    ghost try_from_gives = { λ n r. r ≡ read_by printer_reason_of_number n };
+
+    fn try_from(n: u32) -> Result<PrinterReason, UnknownNumber> {
+        match n {
+            0 => Ok(PrinterReason::None),
+            1 => Ok(PrinterReason::Paused),
+            2 => Ok(PrinterReason::MediaEmpty),
+            3 => Ok(PrinterReason::MediaJam),
+            4 => Ok(PrinterReason::DoorOpen),
+            5 => Ok(PrinterReason::TonerEmpty),
+            _ => Err(UnknownNumber(n)),
+        }
+    }
 }
 
 impl PrinterReason {
-    pub fn number(self) -> u32
-        ensures { result ≡ printer_reason_number self }
-    {
-        match self {
-            PrinterReason::None => 0,
-            PrinterReason::Paused => 1,
-            PrinterReason::MediaEmpty => 2,
-            PrinterReason::MediaJam => 3,
-            PrinterReason::DoorOpen => 4,
-            PrinterReason::TonerEmpty => 5,
-        }
-    }
-
-    pub fn from_number(n: u32) -> Option<PrinterReason>
-        ensures { result ≡ printer_reason_of_number n }
-    {
-        match n {
-            0 => Some(PrinterReason::None),
-            1 => Some(PrinterReason::Paused),
-            2 => Some(PrinterReason::MediaEmpty),
-            3 => Some(PrinterReason::MediaJam),
-            4 => Some(PrinterReason::DoorOpen),
-            5 => Some(PrinterReason::TonerEmpty),
-            _ => None,
-        }
-    }
-
     pub fn keyword(self) -> &'static str
         ensures { result.now ≡ printer_reason_keyword self }
     {
@@ -114,9 +126,15 @@ impl PrinterReason {
     }
 }
 
-// A reason and its number stand for each other.
-pub fn reason_numbers_stand() -> u8
-    ensures { ReasonNumbers }
-{
-    0
+impl fmt::Display for PrinterReason {
+    ghost output = { λ r. Some (printer_reason_keyword r) };
+
+    fn fmt<W: fmt::Write>(&self, f: &mut fmt::Formatter<W>) -> fmt::Result {
+        f.write_str(self.keyword())
+    }
 }
+
+// A reason and its number stand for each other.
+pub fn reason_numbers_stand()
+    ensures { ReasonNumbers }
+{}

@@ -1,11 +1,13 @@
 // Sets of kinds: a number in which the kind k is worth 2^(k-1).
 ghost use Rattle.std.specs.Prelude.{◌≡◌};
+ghost use Rattle.notice.specs.Tables.{read_by};
 ghost use Rattle.notice.specs.Sets.{kind_worth, set_of_number, in_set, some_in, subscribed_in, WorthsAddUp};
 ghost use Rattle.notice.specs.Kinds.{job_kinds};
 
 use crate::kinds::{JobKind, Kind};
+use crate::numbers::UnknownNumber;
 
-#[derive(Clone, Copy)]
+#[derive(Clone, Copy, Debug, PartialEq, Eq)]
 pub struct KindSet {
     bits: u8,
 }
@@ -14,27 +16,32 @@ pub struct KindSet {
 fn worth(kind: Kind) -> u8
     ensures { result ≡ kind_worth kind }
 {
-    1 << (kind.number() - 1)
+    1 << (u32::from(kind) - 1)
+}
+
+impl From<KindSet> for u32 {
+    ghost from_gives = { λ s n. n ≡ s.bits };
+
+    fn from(set: KindSet) -> u32 {
+        u32::from(set.bits)
+    }
+}
+
+impl TryFrom<u32> for KindSet {
+    type Error = UnknownNumber;
+
+    ghost try_from_gives = { λ n r. r ≡ read_by set_of_number n };
+
+    fn try_from(n: u32) -> Result<KindSet, UnknownNumber> {
+        match n {
+            1..=255 => Ok(KindSet { bits: n as u8 }),
+            _ => Err(UnknownNumber(n)),
+        }
+    }
 }
 
 impl KindSet {
-    // None where the number is 0 or over 255.
-    pub fn from_number(n: u32) -> Option<KindSet>
-        ensures { result ≡ set_of_number n }
-    {
-        if n == 0 || n > 255 {
-            None
-        } else {
-            Some(KindSet { bits: n as u8 })
-        }
-    }
-
-    pub fn number(self) -> u32
-        ensures { result ≡ self.bits }
-    {
-        self.bits as u32
-    }
-
+    // By division, as the number of a set is a sum of worths.
     pub fn contains(self, kind: Kind) -> bool
         ensures { result ≡ in_set self.bits kind }
     {
@@ -54,16 +61,12 @@ impl KindSet {
         if self.contains(kind) {
             return Some(kind);
         }
-        match kind.broader() {
-            Some(broader) if self.contains(broader) => Some(broader),
-            _ => None,
-        }
+        kind.broader().filter(|broader| self.contains(*broader))
     }
 }
 
 // The number of a set is the sum of the worths of its kinds.
-pub fn worths_add_up() -> u8
+#[tactic(auto, using(crate::proofs::Worths::added))]
+pub fn worths_add_up()
     ensures { WorthsAddUp }
-{
-    0
-}
+{}

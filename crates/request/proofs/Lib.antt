@@ -1,4 +1,2 @@
-pub mod Gathering
-pub mod Leading
 pub mod Pushing
 pub mod Soundness

@@ -2,10 +2,10 @@
 use Rattle.std.proofs.Common.{◌≡◌, ℕ, suc, ◌≤◌, Bool, true, false, not, ◌&&◌, ◌||◌, eqb, leb, ◌≢◌, List, [], ◌∷◌, map, length, is_ok, Ok, Err, Result, sym, refl, ap, ◌∙◌, subst, arith}
 use Rattle.std.proofs.lemmas.Bool.{and_parts, leb-true}
 use Rattle.std.proofs.lemmas.Bool.Decides.{nat_tests}
-use Rattle.std.specs.List.{AllByRecursion}
+use Rattle.std.specs.List.{AllByRecursion, list_all}
 use Rattle.ipp.specs.declared.attributes.Fault as mid
 use Rattle.ipp.specs.Attributes.{Tagged, Named, distinct_names}
-use Rattle.ipp.specs.Conditions.{all, distinct_numbers, number_in, or_zero}
+use Rattle.ipp.specs.Conditions.{distinct_numbers, number_in, or_zero}
 use Rattle.ipp.specs.Items.{then}
 use Rattle.ipp.specs.Values.{from_one, number_of, positive_of}
 use Rattle.ipp.specs.Walk.{end_from, items_from}
@@ -72,7 +72,7 @@ lows_positive (v ∷ vs) ns h = (lowest_positive ns h, lows_positive vs (rest ns
 differs : (m n : ℕ) → not (eqb m n) ≡ true → m ≢ n
 differs m n h e = grind (arith, nat_tests)
 
-others : (n : ℕ) (vs ns : List Tagged) → all (λ w. not (eqb (number_in w.1) n)) vs ≡ true → AllByRecursion (λ m. m ≢ n) (map (λ (a : Asked). a.id) (asks vs ns))
+others : (n : ℕ) (vs ns : List Tagged) → list_all (λ w. not (eqb (number_in w.1) n)) vs ≡ true → AllByRecursion (λ m. m ≢ n) (map (λ (a : Asked). a.id) (asks vs ns))
 others n [] ns h = tt
 others n (v ∷ vs) ns h =
     let p = and_parts _ _ h in

@@ -3,6 +3,7 @@ use Rattle.std.specs.Prelude.{ℕ, ◌+◌, ◌*◌, Bool, false, cond, not, ◌
 use Rattle.std.specs.Str.{bytes_eq}
 use Rattle.ipp.specs.declared.bytes.Fault as low
 use Rattle.ipp.specs.declared.bytes.Fault.TheVariants as lows
+use Rattle.ipp.specs.declared.attributes.Attributes as code
 use Rattle.ipp.specs.declared.attributes.Fault as mid
 use Rattle.request.specs.declared.Fault.{Fault}
 use Rattle.request.specs.declared.Fault.TheVariants.{Bytes, Attributes, Version, Operation, RequestId, End, OperationGroup, Charset, TooManyIds}
@@ -10,7 +11,7 @@ use Rattle.request.specs.declared.Header.{Header}
 use Rattle.request.specs.declared.Request.{Request}
 use Rattle.request.specs.declared.wanted.Asked.{Asked}
 use Rattle.request.specs.declared.wanted.Wanted.{Wanted}
-use Rattle.ipp.specs.Attributes.{Tagged, Named, attributes, any_mark, is_mark}
+use Rattle.ipp.specs.Attributes.{Tagged, Named, attributes, attributes_in, any_mark, is_mark}
 use Rattle.ipp.specs.Bytes.{two_at}
 use Rattle.ipp.specs.Conditions.{number_in}
 use Rattle.ipp.specs.Items.{Piece, then}
@@ -98,10 +99,10 @@ items_ask xs h =
 abbrev pub request_of : List ℕ → Result Wish Fault
 request_of xs = then Bytes (header_of xs) (λ h. then kept (header_checked h) (items_ask xs))
 
--- the results of the code, with lists in the place of references and tables
-abbrev pub group_at : List ℕ → Result ℕ Fault → Result (List Named) Fault
-group_at xs (Ok start) = Ok (attributes (items_from xs start))
-group_at xs (Err e) = Err e
+-- the results of the code, with lists in the place of iterators and tables
+abbrev pub group_in : Result code.Attributes Fault → Result (List Named) Fault
+group_in (Ok a) = Ok (attributes_in a)
+group_in (Err e) = Err e
 
 abbrev pub asked_at : Result Wanted Fault → Result (List Asked) Fault
 asked_at (Ok w) = Ok (asked_in w)

@@ -1,11 +1,12 @@
 -- The rules on the attributes of the operation group. Assumes nothing.
 use Rattle.std.specs.Prelude.{ℕ, Bool, true, false, cond, ◌&&◌, List, [], ◌∷◌, is_ok, Ok, Err, codes, Result, ◌==◌, nat_eq}
 use Rattle.std.specs.Str.{bytes_eq}
+use Rattle.std.specs.List.{list_all}
 use Rattle.request.specs.declared.Fault.{Fault}
 use Rattle.request.specs.declared.Fault.TheVariants.{NameTwice, FirstTwo, PrinterUri, SubscriptionIds, SequenceNumbers, Wait, FurtherValues}
 use Rattle.request.specs.declared.Operands as code
-use Rattle.ipp.specs.Attributes.{Tagged, Named, values_of, values_at, none, distinct_names}
-use Rattle.ipp.specs.Conditions.{all, distinct_numbers}
+use Rattle.ipp.specs.Attributes.{Tagged, Named, values_of, values_in, none, distinct_names}
+use Rattle.ipp.specs.Conditions.{distinct_numbers}
 use Rattle.ipp.specs.Values.{boolean_of, positive_of}
 
 -- the values of the attributes that the rules name
@@ -42,10 +43,10 @@ leading (a ∷ []) = false
 leading (a ∷ b ∷ rest) = is_named (codes "attributes-charset") 0x47 a && is_named (codes "attributes-natural-language") 0x48 b
 
 abbrev pub all_from_one : List Tagged → Bool
-all_from_one = all (λ v. is_ok (positive_of v.1))
+all_from_one = list_all (λ v. is_ok (positive_of v.1))
 
 abbrev pub all_tagged : ℕ → List Tagged → Bool
-all_tagged tag = all (λ v. nat_eq v.0 tag)
+all_tagged tag = list_all (λ v. nat_eq v.0 tag)
 
 -- integers from 1 on, none twice
 abbrev pub good_ids : List Tagged → Bool
@@ -87,16 +88,17 @@ all_named o =
 abbrev pub checked : List Named → Result Operands Fault
 checked ats = unless (distinct_names ats) NameTwice (unless (leading ats) FirstTwo (all_named (operands_of ats)))
 
-abbrev pub operands_at : List ℕ → code.Operands → Operands
-operands_at xs o = record {
-  charset = values_at xs o.charset;
-  language = values_at xs o.language;
-  uri = values_at xs o.uri;
-  ids = values_at xs o.ids;
-  numbers = values_at xs o.numbers;
-  wait = values_at xs o.wait;
+-- the results of the code, with lists in the place of iterators
+abbrev pub operands_in : code.Operands → Operands
+operands_in o = record {
+  charset = values_in o.charset;
+  language = values_in o.language;
+  uri = values_in o.uri;
+  ids = values_in o.ids;
+  numbers = values_in o.numbers;
+  wait = values_in o.wait;
 }
 
-abbrev pub outcome_at : List ℕ → Result code.Operands Fault → Result Operands Fault
-outcome_at xs (Ok o) = Ok (operands_at xs o)
-outcome_at xs (Err e) = Err e
+abbrev pub outcome_in : Result code.Operands Fault → Result Operands Fault
+outcome_in (Ok o) = Ok (operands_in o)
+outcome_in (Err e) = Err e

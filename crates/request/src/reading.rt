@@ -1,18 +1,17 @@
 // A whole request: the header, the items, the rules, and what it asks for.
 ghost use Rattle.std.specs.Prelude.{◌≡◌};
-ghost use Rattle.ipp.specs.Attributes.{attributes, values_at};
-ghost use Rattle.request.specs.Request.{asked_at, asked_of, group_asks, group_at, header_checked, header_of, items_ask, lowest_of, operation_group, request_of, rest, told, utf_8, waiting, wish_of};
-ghost use Rattle.request.specs.Rules.{operands_at};
-ghost use Rattle.ipp.specs.Walk.{items_from};
+ghost use Rattle.ipp.specs.Attributes.{attributes_in, values_in};
+ghost use Rattle.ipp.specs.Walk.{items_in};
+ghost use Rattle.request.specs.Request.{asked_at, asked_of, group_asks, group_in, header_checked, header_of, items_ask, operation_group, request_of, told, utf_8, waiting, wish_of};
+ghost use Rattle.request.specs.Rules.{operands_in};
 
 use crate::checks::check_group;
 use crate::wanted::{Asked, Wanted};
 use crate::{Fault, Header, Operands, Request};
-use ipp::attributes::same;
+use ipp::attributes::Attributes;
 use ipp::bytes;
-use ipp::conditions::number;
-use ipp::items::{check_items, has_group, is_mark, item_at};
-use ipp::values::{Value, boolean, further_value};
+use ipp::items::{Items, check_items};
+use ipp::values::{Values, boolean, number};
 
 pub const GET_NOTIFICATIONS: u16 = 0x001c;
 
@@ -41,7 +40,7 @@ pub fn read_header(src: &[u8]) -> Result<Header, bytes::Fault>
 pub fn check_header(header: Header) -> Result<Header, Fault>
     ensures { result ≡ header_checked header }
 {
-    if header.major != 1 && header.major != 2 {
+    if !matches!(header.major, 1 | 2) {
         return Err(Fault::Version);
     }
     if header.operation != GET_NOTIFICATIONS {
@@ -53,112 +52,69 @@ pub fn check_header(header: Header) -> Result<Header, Fault>
     Ok(header)
 }
 
-// The place of the operation group's first item, if that group is the first and stands once.
-pub fn find_operation_group(src: &[u8]) -> Result<usize, Fault>
-    ensures { group_at src.now result ≡ operation_group (items_from src.now 8) }
+// The attributes of the operation group, if that group is the first and stands once.
+pub fn find_operation_group<'a>(mut items: Items<'a>) -> Result<Attributes<'a>, Fault>
+    ensures { group_in result ≡ operation_group (items_in items.entry) }
 {
-    let Some((item, start)) = item_at(src, HEADER_LENGTH) else {
+    let Some(first) = items.next() else {
         return Err(Fault::OperationGroup);
     };
-    if !is_mark(item, OPERATION_GROUP) {
+    if !first.is_mark(OPERATION_GROUP) || items.has_group(OPERATION_GROUP) {
         return Err(Fault::OperationGroup);
     }
-    if has_group(src, start, OPERATION_GROUP) {
-        return Err(Fault::OperationGroup);
-    }
-    Ok(start)
+    Ok(Attributes::new(items))
 }
 
-// The lowest number wanted where the next sequence number is `low`.
-fn lowest<'a>(src: &'a [u8], low: Option<Value<'a>>) -> u32
-    ensures { result ≡ lowest_of (values_at src.now low.entry) }
-{
-    match low {
-        Some(value) => number(value.bytes),
-        None => 1,
-    }
-}
-
-// The value behind another, if any.
-fn behind<'a>(src: &'a [u8], value: Option<Value<'a>>) -> Option<Value<'a>>
-    ensures { values_at src.now result ≡ rest (values_at src.now value.entry) }
-{
-    match value {
-        Some(value) => further_value(src, value.next),
-        None => None,
-    }
-}
-
-// The ids, each with its lowest wanted number, if there are at most eight.
-pub fn gather<'a>(
-    src: &'a [u8],
-    ids: Option<Value<'a>>,
-    numbers: Option<Value<'a>>,
-) -> Result<Wanted, Fault>
-    ensures { asked_at result ≡ asked_of (values_at src.now ids.entry) (values_at src.now numbers.entry) }
+// The ids, each with its lowest wanted number, if there are at most eight. Where no number is left, it is 1.
+pub fn gather(ids: Values, mut numbers: Values) -> Result<Wanted, Fault>
+    ensures { asked_at result ≡ asked_of (values_in ids.entry) (values_in numbers.entry) }
 {
     let mut wanted = Wanted::new();
-    let mut next = ids;
-    let mut low = numbers;
-    while let Some(value) = next {
-        let asked = Asked {
-            id: number(value.bytes),
-            lowest: lowest(src, low),
-        };
-        if !wanted.push(asked) {
-            return Err(Fault::TooManyIds);
-        }
-        next = further_value(src, value.next);
-        low = behind(src, low);
+    for value in ids {
+        let lowest = numbers.next().map_or(1, |low| number(low.bytes));
+        let id = number(value.bytes);
+        wanted.push(Asked { id, lowest })?;
     }
     Ok(wanted)
 }
 
 // Whether the charset is utf-8, byte for byte.
-fn is_utf_8<'a>(src: &'a [u8], charset: Option<Value<'a>>) -> bool
-    ensures { result ≡ utf_8 (values_at src.now charset.entry) }
+fn is_utf_8(charset: Values) -> bool
+    ensures { result ≡ utf_8 (values_in charset.entry) }
 {
-    match charset {
-        Some(value) => same(value.bytes, b"utf-8"),
-        None => false,
-    }
+    charset
+        .first()
+        .is_some_and(|value| value.bytes == b"utf-8".as_slice())
 }
 
 // Whether notify-wait is there and true.
-fn is_waiting<'a>(src: &'a [u8], wait: Option<Value<'a>>) -> bool
-    ensures { result ≡ waiting (values_at src.now wait.entry) }
+fn is_waiting(wait: Values) -> bool
+    ensures { result ≡ waiting (values_in wait.entry) }
 {
-    match wait {
-        Some(value) => matches!(boolean(value.bytes), Ok(true)),
-        None => false,
-    }
+    wait.first()
+        .is_some_and(|value| boolean(value.bytes) == Ok(true))
 }
 
 // What the operation group's attributes ask for.
-pub fn read_operands<'a>(
-    src: &'a [u8],
-    header: Header,
-    named: Operands<'a>,
-) -> Result<Request, Fault>
-    ensures { told result ≡ wish_of header (operands_at src.now named.entry) }
+pub fn read_operands(header: Header, named: Operands) -> Result<Request, Fault>
+    ensures { told result ≡ wish_of header (operands_in named.entry) }
 {
-    if !is_utf_8(src, named.charset) {
+    if !is_utf_8(named.charset) {
         return Err(Fault::Charset);
     }
-    let wanted = gather(src, named.ids, named.numbers)?;
+    let wanted = gather(named.ids, named.numbers)?;
     Ok(Request {
         header,
         wanted,
-        wait: is_waiting(src, named.wait),
+        wait: is_waiting(named.wait),
     })
 }
 
-// What the operation group from `start` on asks for, or the first rule that it breaks.
-pub fn read_group(src: &[u8], header: Header, start: usize) -> Result<Request, Fault>
-    ensures { told result ≡ group_asks header (attributes (items_from src.now start)) }
+// What the operation group asks for, or the first rule that it breaks.
+pub fn read_group(header: Header, group: Attributes) -> Result<Request, Fault>
+    ensures { told result ≡ group_asks header (attributes_in group.entry) }
 {
-    let named = check_group(src, start)?;
-    read_operands(src, header, named)
+    read_operands(header, check_group(group)?)
 }
 
 // What the items behind the header ask for, or the first rule that they break.
@@ -169,15 +125,14 @@ pub fn read_items(src: &[u8], header: Header) -> Result<Request, Fault>
     if end != src.len() {
         return Err(Fault::End);
     }
-    let start = find_operation_group(src)?;
-    read_group(src, header, start)
+    let group = find_operation_group(Items::new(src, HEADER_LENGTH))?;
+    read_group(header, group)
 }
 
 // What the request asks for, or the first rule that it breaks.
 pub fn read_request(src: &[u8]) -> Result<Request, Fault>
     ensures { told result ≡ request_of src.now }
 {
-    let header = read_header(src)?;
-    let header = check_header(header)?;
+    let header = check_header(read_header(src)?)?;
     read_items(src, header)
 }

@@ -3,6 +3,7 @@
 
 pub mod playing;
 pub mod steps;
+pub mod texts;
 
 pub use playing::{play, play_both};
 pub use steps::{Seen, Step, take_step};

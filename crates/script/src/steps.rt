@@ -1,11 +1,11 @@
 // One step of a script: a call of a store, and what it answers.
 ghost use Rattle.std.specs.Prelude.{◌≡◌};
-ghost use Rattle.script.specs.Script.{seen_at, lists_after};
+ghost use Rattle.script.specs.Script.{contents, seen_at, after};
 
 use notice::Notice;
-use store::NoticeStore;
+use store::{Full, NoticeStore};
 
-#[derive(Clone, Copy)]
+#[derive(Clone, Copy, Debug, PartialEq, Eq)]
 pub enum Step {
     Put { slot: usize, notice: Notice },
     DropOldest { slot: usize },
@@ -14,9 +14,9 @@ pub enum Step {
     At { slot: usize, place: usize },
 }
 
-#[derive(Clone, Copy)]
+#[derive(Clone, Copy, Debug, PartialEq, Eq)]
 pub enum Seen {
-    // A put, which the store takes or refuses.
+    // A put, which the store takes or refuses: each a word of its own where it is shown.
     Taken,
     Refused,
     // A drop or a clear, which answer nothing.
@@ -25,20 +25,16 @@ pub enum Seen {
     Found(Option<Notice>),
 }
 
+// A step is data, which a script holds, compares and prints; a closure would be none of these.
 pub fn take_step<S: NoticeStore>(store: &mut S, step: Step) -> Seen
-    ensures seen { result ≡ seen_at (S.reserve store.old) (S.spare store.old) (S.lists store.old) step }
-    ensures lists { S.lists store.new ≡ lists_after (S.reserve store.old) (S.spare store.old) (S.lists store.old) step }
-    ensures reserve { S.reserve store.new ≡ S.reserve store.old }
-    ensures spare { S.spare store.new ≡ S.spare store.old }
+    ensures seen { result ≡ seen_at (contents S.NoticeStore store.old) step }
+    ensures contents { contents S.NoticeStore store.new ≡ after (contents S.NoticeStore store.old) step }
 {
     match step {
-        Step::Put { slot, notice } => {
-            if store.put(slot, notice) {
-                Seen::Taken
-            } else {
-                Seen::Refused
-            }
-        }
+        Step::Put { slot, notice } => match store.put(slot, notice) {
+            Ok(()) => Seen::Taken,
+            Err(Full) => Seen::Refused,
+        },
         Step::DropOldest { slot } => {
             store.drop_oldest(slot);
             Seen::Done

@@ -1,2 +1,4 @@
-pub mod Steps
+pub mod Waiting
+pub mod Changes
+pub mod Places
 pub mod Room

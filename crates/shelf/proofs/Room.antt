@@ -1,35 +1,41 @@
--- When a slot of a shelf is full, and the lists of a shelf whose entries all count.
-use Rattle.std.proofs.Common.{◌≡◌, ℕ, ◌+◌, ◌<◌, ◌≤◌, true, false, not, eqb, leb, List, [], length, get_or, take, sym, ap, ◌∙◌, subst, inl, inr, arith}
+-- When a slot of a shelf is full, and which entry leaves.
+use Rattle.std.proofs.Common.{◌≡◌, ℕ, ◌+◌, ◌<◌, ◌≤◌, Bool, true, false, not, eqb, List, [], length, get_or, take, sym, ap, ◌∙◌, inl, inr, arith}
 use Rattle.std.specs.List.{remove}
-use Rattle.std.proofs.ByRecursion.{All-more, All-weaker}
-use Rattle.std.proofs.lemmas.List.{length-append, nil_from_length, set_past, take_all}
-use Rattle.std.proofs.lemmas.Bool.{and_cases, and_parts, both_ways, cases_lt, eqb-false, eqb-true, leb-false, not-false, not-true, or_parts}
+use Rattle.std.proofs.lemmas.List.Elements.{All-more, All-same, All-weaker}
+use Rattle.std.proofs.lemmas.List.{get_or_default, length-append, nil_from_length}
+use Rattle.std.proofs.lemmas.Bool.{and_cases, and_parts, both_ways, cases_lt, eqb-false, eqb-true, not-false, not-true}
 use Rattle.notice.specs.declared.event.Notice.{Notice}
 use Rattle.store.specs.Meaning.{held, in_use, full, put_at}
-use Rattle.store.proofs.Room.{no_spare, in_reserve, in_spare, full_there, room_so}
+use Rattle.store.proofs.Room.{no_slot, no_spare, in_reserve, in_spare, full_there, room_so}
+use Rattle.store.proofs.Follows.{same_store}
 use Rattle.shelf.specs.declared.entry.Entry.{Entry}
-use Rattle.shelf.specs.Shelf.{waiting, extended, places, shelf_lists, goes_below, may_leave, Stuck}
-use Rattle.shelf.specs.Waiting.{none_waits, all_that_wait}
-use Rattle.shelf.specs.Extended.{length_extended, held_extended, extended_none, extended_move, extended_void, in_use_most, in_use_all}
+use Rattle.shelf.specs.Shelf.{waiting, extended, goes_below, Placed, Stuck}
+use Rattle.shelf.specs.Extended.{length_extended, held_within, in_use_most}
+use Rattle.shelf.proofs.Waiting.{none_waits, all_that_wait}
+use Rattle.shelf.proofs.Changes.{extended_move, extended_push, extended_put, in_use_all}
 
--- an entry that may not leave
-kept_so : (r v : ℕ) (ls : List (List Notice)) (i : ℕ) → may_leave r v ls i ≡ false → (i < length ls) × (full r v ls i ≡ true)
-kept_so r v ls i e = let p = or_parts (leb (length ls) i) (not (full r v ls i)) e in (leb-false (length ls) i p.0, not-false (full r v ls i) p.1)
+-- a store that holds the same
+pub full_alike : (r v s w : ℕ) (ls ks : List (List Notice)) (i : ℕ) (b : Bool) → s ≡ r → w ≡ v → ks ≡ ls → full s w ks i ≡ b → full r v ls i ≡ b
+full_alike r v s w ls ks i b p q e t = sym (same_store (λ r v ls. full r v ls i) s r w v ks ls p q e) ∙ t
 
--- the entries before one may not leave: one more that may not, or the first that may
-module _ (r v : ℕ) (ls : List (List Notice)) (es : List Entry) (j : ℕ) (e : Entry) (h : j < length es) (g : e ≡ get_or es j e) (f : Stuck r v ls (take j es)) where
-  pub stuck_more : may_leave r v ls e.slot ≡ false → Stuck r v ls (take (j + 1) es)
-  stuck_more t = All-more (λ x. may_leave r v ls x.slot ≡ false) es j e h f (subst (λ (x : Entry). may_leave r v ls x.slot ≡ false) g t)
+pub stuck_alike : (r v s w : ℕ) (ls ks : List (List Notice)) (es fs : List Entry) → s ≡ r → w ≡ v → ks ≡ ls → fs ≡ es → Stuck s w ks fs → Stuck r v ls es
+stuck_alike r v s w ls ks es fs p q k l f =
+    All-same (λ e. full r v ls e.slot ≡ true) es fs (sym l)
+    (All-weaker (λ e. full s w ks e.slot ≡ true) (λ e. full r v ls e.slot ≡ true) (λ e t. full_alike r v s w ls ks e.slot true p q k t) fs f)
 
-  pub moved : may_leave r v ls e.slot ≡ true → extended (put_at ls e.slot e.notice) (remove es j) ≡ extended ls es
-  moved t =
-      elim (cases_lt e.slot (length ls)) [
-        | inl s ↦
-            extended_move ls es j e h g s
-            (none_waits (take j es) e.slot
-            (All-weaker _ (λ x. x.slot ≡ e.slot → ⊥) (λ x p q. both_ways (may_leave r v ls e.slot) (ap (λ (i : ℕ). may_leave r v ls i) (sym q) ∙ p) t) (take j es) f))
-        | inr s ↦ ap (λ (ms : List (List Notice)). extended ms (remove es j)) (set_past ls e.slot _ s) ∙ extended_void ls es j e h g s
-      ]
+-- one entry more that may not leave
+pub stuck_more : (r v s w : ℕ) (ls ks : List (List Notice)) (es xs : List Entry) (j : ℕ) (d : Entry) → s ≡ r → w ≡ v → ks ≡ ls → xs ≡ es → j < length xs → Stuck r v ls (take j es) → full s w ks (get_or xs j d).slot ≡ true → Stuck r v ls (take (j + 1) es)
+stuck_more r v s w ls ks es xs j d p q k same h f t =
+    All-more (λ e. full r v ls e.slot ≡ true) es j d (omega (arith, h, ap (λ (ys : List Entry). length ys) same)) f
+    (full_alike r v s w ls ks (get_or es j d).slot true p q k (ap (λ (ys : List Entry). full s w ks (get_or ys j d).slot) (sym same) ∙ t))
+
+-- the first entry that may leave does: the slot of each entry before it is full below, so it is not the same
+pub moved : (r v : ℕ) (ls : List (List Notice)) (es : List Entry) (j : ℕ) (d : Entry) → j < length es → Stuck r v ls (take j es) → full r v ls (get_or es j d).slot ≡ false → extended (put_at ls (get_or es j d).slot (get_or es j d).notice) (remove es j) ≡ extended ls es
+moved r v ls es j d h f room =
+    let e = get_or es j d in
+    extended_move ls es j e h (get_or_default es j d e h)
+    (none_waits (take j es) e.slot
+    (All-weaker (λ x. full r v ls x.slot ≡ true) (λ x. x.slot ≡ e.slot → ⊥) (λ x a b. both_ways (full r v ls x.slot) (ap (λ (i : ℕ). full r v ls i) b ∙ room) a) (take j es) f))
 
 -- a notice goes below at once: nothing waits for its slot, which has room
 pub none_overtaken : (r v : ℕ) (ls : List (List Notice)) (es : List Entry) (i : ℕ) → goes_below r v ls es i ≡ true → waiting es i ≡ []
@@ -42,7 +48,7 @@ room_below r v p ls es i l u t =
     elim s.1 [
       | inl a ↦
           in_reserve r (v + p) (extended ls es) i there
-          (omega (arith, ap (λ (ns : List Notice). length ns) (held_extended ls es i s.0), length-append (held ls i) (waiting es i), ap (λ (ns : List Notice). length ns) (none_overtaken r v ls es i t)))
+          (omega (arith, ap (λ (ns : List Notice). length ns) (held_within ls es i s.0), length-append (held ls i) (waiting es i), ap (λ (ns : List Notice). length ns) (none_overtaken r v ls es i t)))
       | inr a ↦
           elim (cases_lt (in_use r ls) v) [
             | inl b ↦ in_spare r (v + p) (extended ls es) i there (omega (arith, in_use_most r ls es))
@@ -50,12 +56,10 @@ room_below r v p ls es i l u t =
           ]
     ]
 
--- fewer entries stand than count, after a change of no list: every slot has room
-pub room_on_shelf : (r s v w p : ℕ) (ls ms : List (List Notice)) (es fs : List Entry) (i : ℕ) → i < length ls → s ≡ r → w ≡ v → in_use s ms ≤ w → extended ms fs ≡ extended ls es → length fs < p → full r (v + p) (extended ls es) i ≡ false
-room_on_shelf r s v w p ls ms es fs i h a b u e l =
-    let x = ap (λ (r : ℕ). in_use r ms) a in
-    let y = ap (λ (ks : List (List Notice)). in_use r ks) e in
-    in_spare r (v + p) (extended ls es) i (omega (arith, length_extended ls es)) (omega (arith, in_use_most r ms fs))
+-- fewer entries stand than may, after a change of no list: every slot has room
+pub room_on_shelf : (r v p : ℕ) (ls ms : List (List Notice)) (es fs : List Entry) (i : ℕ) → i < length ls → in_use r ms ≤ v → extended ms fs ≡ extended ls es → length fs < p → full r (v + p) (extended ls es) i ≡ false
+room_on_shelf r v p ls ms es fs i h u e l =
+    in_spare r (v + p) (extended ls es) i (omega (arith, length_extended ls es)) (omega (arith, in_use_most r ms fs, ap (λ (ks : List (List Notice)). in_use r ks) e))
 
 -- where no entry may leave, a slot whose notices do not go below at once is full there
 full_below : (r v : ℕ) (ls : List (List Notice)) (es : List Entry) (i : ℕ) → Stuck r v ls es → goes_below r v ls es i ≡ false → full r v ls i ≡ true
@@ -63,29 +67,20 @@ full_below r v ls es i f t =
     elim (and_cases (eqb (length (waiting es i)) 0) (not (full r v ls i)) t) [
       | inl a ↦
           elim (cases_lt 0 (length (waiting es i))) [
-            | inl w ↦ (kept_so r v ls i (all_that_wait (λ k. may_leave r v ls k ≡ false) es i f w)).1
+            | inl w ↦ all_that_wait (λ k. full r v ls k ≡ true) es i f w
             | inr w ↦ absurd (eqb-false (length (waiting es i)) 0 a (omega arith))
           ]
       | inr a ↦ not-false (full r v ls i) a
     ]
 
--- as many entries stand as count, none may leave, and a notice did not go below: its slot is full
-pub room_nowhere : (r s v w p : ℕ) (ls ms : List (List Notice)) (es : List Entry) (i : ℕ) → i < length ls → s ≡ r → w ≡ v → ms ≡ ls → length es ≡ p → Stuck s w ms es → goes_below r v ls es i ≡ false → full r (v + p) (extended ls es) i ≡ true
-room_nowhere r s v w p ls ms es i h a b d l g t =
-    let f : Stuck r v ls es =
-    subst (λ (ks : List (List Notice)). Stuck r v ks es) d (subst (λ (k : ℕ). Stuck r k ms es) b (subst (λ (k : ℕ). Stuck k w ms es) a g)) in
+-- as many entries stand as may, none may leave, and a notice did not go below: its slot is full
+pub room_nowhere : (r v p : ℕ) (ls : List (List Notice)) (es : List Entry) (i : ℕ) → i < length ls → Placed ls es → length es ≡ p → Stuck r v ls es → goes_below r v ls es i ≡ false → full r (v + p) (extended ls es) i ≡ true
+room_nowhere r v p ls es i h k l f t =
     let here = full_there r v ls i h (full_below r v ls es i f t) in
-    let uses : (e : Entry) → may_leave r v ls e.slot ≡ false → (e.slot < length ls) × (r ≤ length (held ls e.slot)) =
-    λ e q. let s = kept_so r v ls e.slot q in (s.0, (full_there r v ls e.slot s.0 s.1).0) in
-    let u = in_use_all r ls es (All-weaker _ (λ e. (e.slot < length ls) × (r ≤ length (held ls e.slot))) uses es f) in
+    let uses = in_use_all r ls es (λ j d a. (k j d a, (full_there r v ls _ (k j d a) (f j d a)).0)) in
     no_spare r (v + p) (extended ls es) i
-    (omega (arith, ap (λ (ns : List Notice). length ns) (held_extended ls es i h), length-append (held ls i) (waiting es i), here.0))
+    (omega (arith, ap (λ (ns : List Notice). length ns) (held_within ls es i h), length-append (held ls i) (waiting es i), here.0))
     (omega (arith, here.1))
 
--- a shelf whose entries all count
-pub shelf_all : (ls : List (List Notice)) (n v : ℕ) (es : List Entry) → length es ≤ places n v → shelf_lists ls n v es ≡ extended ls es
-shelf_all ls n v es h = ap (λ (xs : List Entry). extended ls xs) (take_all (places n v) es h)
-
-pub shelf_none : (ls : List (List Notice)) (n v : ℕ) (es : List Entry) → es ≡ [] → shelf_lists ls n v es ≡ ls
-shelf_none ls n v es e =
-    shelf_all ls n v es (omega (arith, ap (λ (xs : List Entry). length xs) e)) ∙ ap (λ (xs : List Entry). extended ls xs) e ∙ extended_none ls
+-- what a put goes by
+pub ruleset puts = (no_slot, length_extended, room_below, none_overtaken, room_on_shelf, extended_put, extended_push)

@@ -1,3 +1,2 @@
 pub mod Shelf
 pub mod Extended
-pub mod Waiting

@@ -1,4 +1,3 @@
 pub mod Room
 pub mod Follows
-pub mod Rows
 pub mod LaneLists

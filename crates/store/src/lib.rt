@@ -6,5 +6,6 @@ pub mod lanes;
 pub mod meaning;
 pub mod sizes;
 
-pub use interface::NoticeStore;
+pub use interface::{Full, NoticeStore};
 pub use lanes::Lanes;
+pub use sizes::{Size, Sizes};

@@ -1,22 +1,26 @@
 -- What the stores of a group show of a script.
-use Rattle.std.specs.Prelude.{◌≡◌, ℕ, ◌+◌, ◌-◌, ◌*◌, ◌/◌, List, [], ◌∷◌, length, vec_items}
-use Rattle.notice.specs.declared.event.Notice.{Notice}
-use Rattle.store.specs.Sizes.{spare_made, shelf_made}
+use Rattle.std.specs.Prelude.{◌≡◌, ℕ, ◌+◌, ◌-◌, ◌*◌, ◌/◌, List, [], ◌∷◌, length, replicate, vec_items}
+use Rattle.store.specs.Sizes.{slots_made, reserve_made, spare_made, shelf_made}
 use Rattle.script.specs.declared.steps.Step.{Step}
-use Rattle.script.specs.Script.{seen_all}
+use Rattle.script.specs.Script.{Contents, seen_all}
+use Rattle.store.specs.declared.sizes.Sizes.{Sizes}
 use Rattle.stores.specs.declared.groups.Report.{Report}
 
--- what is reported of a store that has this reserve and this spare, and holds these lists at the start
-abbrev pub Shows : Report → ℕ → ℕ → List (List Notice) → List Step → Type 0
-Shows w r v lists steps =
-    (w.sizes.slots ≡ length lists) × (w.sizes.reserve ≡ r) × (w.sizes.spare ≡ v) × (vec_items w.seen ≡ seen_all r v lists steps)
+-- what is reported of a store that has these contents at the start
+abbrev pub Shows : Report → Contents → List Step → Type 0
+Shows w c steps =
+    (w.sizes.slots ≡ length c.lists) × (w.sizes.reserve ≡ c.reserve) × (w.sizes.spare ≡ c.spare) × (vec_items w.seen ≡ seen_all c steps)
 
--- the same of the stores of a group, each of them with a spare of its own
-abbrev pub ShowEach : List Report → ℕ → List ℕ → List (List Notice) → List Step → Type 0
-ShowEach [] r [] lists steps = Unit {0}
-ShowEach [] r (v ∷ vs) lists steps = ⊥
-ShowEach (w ∷ ws) r [] lists steps = ⊥
-ShowEach (w ∷ ws) r (v ∷ vs) lists steps = Shows w r v lists steps × ShowEach ws r vs lists steps
+-- the same of the stores of a group, each of them with contents of its own
+abbrev pub ShowEach : List Report → List Contents → List Step → Type 0
+ShowEach [] [] steps = Unit {0}
+ShowEach [] (c ∷ cs) steps = ⊥
+ShowEach (w ∷ ws) [] steps = ⊥
+ShowEach (w ∷ ws) (c ∷ cs) steps = Shows w c steps × ShowEach ws cs steps
+
+-- a store with the spare v that is made with these slots and this reserve, and holds nothing
+abbrev pub empty_store : Sizes → ℕ → Contents
+empty_store sizes v = record { reserve = reserve_made sizes.reserve; spare = v; lists = replicate (slots_made sizes.slots) [] }
 
 -- the spare of a shelf over chains, where a half goes to the shelf
 abbrev pub over_chains : ℕ → ℕ

@@ -1,16 +1,17 @@
 // The stores that a script is played on: two with no spare, and four that have one.
-ghost use Rattle.std.specs.Prelude.{◌≡◌, ◌≤◌, [], ◌∷◌, length, replicate, IfOk};
-ghost use Rattle.store.specs.Sizes.{slots_made, reserve_made, spare_made, shelf_made};
-ghost use Rattle.stores.specs.Groups.{Shows, ShowEach, over_chains, over_shelf, spares_of};
+ghost use Rattle.std.specs.Prelude.{◌≡◌, ◌+◌, ◌≤◌, [], ◌∷◌, map, replicate, IfOk};
+ghost use Rattle.store.specs.Sizes.{spare_made, shelf_made};
+ghost use Rattle.script.specs.Script.{contents};
+ghost use Rattle.stores.specs.Groups.{Shows, ShowEach, empty_store, over_chains, over_shelf, spares_of};
 
-use crate::lines::Sizes;
 use chains::Chains;
-use script::{Seen, Step, play_both};
+use script::{Seen, Step, play};
 use shelf::Shelf;
 use std::alloc::{AllocError, Global};
-use store::{Lanes, NoticeStore};
+use store::{Lanes, NoticeStore, Sizes};
 
-// A store by its name and its sizes, and what is seen of it.
+// A store by its name and its sizes, and what is seen of it: an answer for each step, in a list of its
+// own, since the steps are the same for all stores.
 #[derive(Drop)]
 pub struct Report {
     pub name: &'static str,
@@ -18,97 +19,110 @@ pub struct Report {
     pub seen: Vec<Seen>,
 }
 
-fn sizes_of<S: NoticeStore>(store: &S) -> Sizes
-    ensures { (result.slots ≡ length (S.lists store.now)) × (result.reserve ≡ S.reserve store.now) × (result.spare ≡ S.spare store.now) }
+// Steps for stores that are made with these sizes, and the memory for both.
+#[derive(Clone, Copy)]
+pub struct Script<'a> {
+    pub heap: Global,
+    pub sizes: Sizes,
+    pub steps: &'a [Step],
+}
+
+// Chains of these sizes, with a shelf over them.
+fn shelf_over_chains(heap: Global, sizes: Sizes, size: usize) -> Result<Shelf<Chains>, AllocError>
+    ensures { IfOk result (λ s. contents ⟦<Shelf<Chains> as NoticeStore>⟧ s ≡ empty_store sizes (spare_made sizes.spare + shelf_made size)) }
 {
-    Sizes {
-        slots: store.slots(),
-        reserve: store.reserve_size(),
-        spare: store.spare_size(),
+    let chains = Chains::new(heap, sizes)?;
+    Ok(Shelf::new(heap, chains, size)?)
+}
+
+impl Script<'_> {
+    fn play_on<S: NoticeStore + Drop>(
+        &self,
+        name: &'static str,
+        mut store: S,
+    ) -> Result<Report, AllocError>
+        ensures { IfOk result (λ w. Shows w (contents S.NoticeStore store) self.now.steps.now) }
+    {
+        let sizes = store.sizes();
+        let seen = play(self.heap, &mut store, self.steps)?;
+        Ok(Report { name, sizes, seen })
     }
-}
 
-// A script on two stores, each with its name.
-fn watch<S: NoticeStore + Drop, T: NoticeStore + Drop>(
-    heap: Global,
-    names: [&'static str; 2],
-    mut first: S,
-    mut second: T,
-    steps: &[Step],
-) -> Result<(Report, Report), AllocError>
-    ensures first { IfOk result (λ p. Shows p.0 (S.reserve first) (S.spare first) (S.lists first) steps.now) }
-    ensures second { IfOk result (λ p. Shows p.1 (T.reserve second) (T.spare second) (T.lists second) steps.now) }
-{
-    let first_sizes = sizes_of(&first);
-    let second_sizes = sizes_of(&second);
-    let (first_seen, second_seen) = play_both(heap, &mut first, &mut second, steps)?;
-    let [first_name, second_name] = names;
-    Ok((
-        Report {
-            name: first_name,
-            sizes: first_sizes,
-            seen: first_seen,
-        },
-        Report {
-            name: second_name,
-            sizes: second_sizes,
-            seen: second_seen,
-        },
-    ))
-}
+    fn play_on_lanes(&self) -> Result<Report, AllocError>
+        ensures { IfOk result (λ w. Shows w (empty_store self.now.sizes 0) self.now.steps.now) }
+    {
+        let lanes = Lanes::new(self.heap, self.sizes.slots, self.sizes.reserve)?;
+        self.play_on("lanes", lanes)
+    }
 
-// Lanes, and chains with no spare.
-pub fn play_without_spare(
-    heap: Global,
-    sizes: Sizes,
-    steps: &[Step],
-) -> Result<[Report; 2], AllocError>
-    ensures { IfOk result (λ ws. ShowEach ws (reserve_made sizes.reserve) (0 ∷ 0 ∷ []) (replicate (slots_made sizes.slots) []) steps.now) }
-{
-    let lanes = Lanes::new(heap, sizes.slots, sizes.reserve)?;
-    let chains = Chains::new(heap, sizes.slots, sizes.reserve, 0)?;
-    let (first, second) = watch(heap, ["lanes", "chains"], lanes, chains, steps)?;
-    Ok([first, second])
-}
+    // The sizes are those of the script, or the same with no spare.
+    fn play_on_chains(&self, sizes: Sizes) -> Result<Report, AllocError>
+        ensures { IfOk result (λ w. Shows w (empty_store sizes (spare_made sizes.spare)) self.now.steps.now) }
+    {
+        let chains = Chains::new(self.heap, sizes)?;
+        self.play_on("chains", chains)
+    }
 
-// Chains with the spare, and a shelf of that size over lanes.
-fn play_whole(heap: Global, sizes: Sizes, steps: &[Step]) -> Result<(Report, Report), AllocError>
-    ensures chains { IfOk result (λ p. Shows p.0 (reserve_made sizes.reserve) (spare_made sizes.spare) (replicate (slots_made sizes.slots) []) steps.now) }
-    ensures shelf { IfOk result (λ p. Shows p.1 (reserve_made sizes.reserve) (shelf_made sizes.spare) (replicate (slots_made sizes.slots) []) steps.now) }
-{
-    let chains = Chains::new(heap, sizes.slots, sizes.reserve, sizes.spare)?;
-    let lanes = Lanes::new(heap, sizes.slots, sizes.reserve)?;
-    let shelf = Shelf::new(heap, lanes, sizes.spare)?;
-    watch(heap, ["chains", "shelf over lanes"], chains, shelf, steps)
-}
+    fn play_over_lanes(&self) -> Result<Report, AllocError>
+        ensures { IfOk result (λ w. Shows w (empty_store self.now.sizes (shelf_made self.now.sizes.spare)) self.now.steps.now) }
+    {
+        let lanes = Lanes::new(self.heap, self.sizes.slots, self.sizes.reserve)?;
+        let shelf = Shelf::new(self.heap, lanes, self.sizes.spare)?;
+        self.play_on("shelf over lanes", shelf)
+    }
 
-// A shelf over chains, the spare split between the two, and a shelf over a shelf over chains, the
-// spare split in three.
-fn play_split(heap: Global, sizes: Sizes, steps: &[Step]) -> Result<(Report, Report), AllocError>
-    ensures shelf { IfOk result (λ p. Shows p.0 (reserve_made sizes.reserve) (over_chains sizes.spare) (replicate (slots_made sizes.slots) []) steps.now) }
-    ensures shelves { IfOk result (λ p. Shows p.1 (reserve_made sizes.reserve) (over_shelf sizes.spare) (replicate (slots_made sizes.slots) []) steps.now) }
-{
-    let half = sizes.spare / 2;
-    let chains = Chains::new(heap, sizes.slots, sizes.reserve, sizes.spare - half)?;
-    let shelf = Shelf::new(heap, chains, half)?;
-    let third = sizes.spare / 3;
-    let chains = Chains::new(heap, sizes.slots, sizes.reserve, sizes.spare - 2 * third)?;
-    let lower = Shelf::new(heap, chains, third)?;
-    let upper = Shelf::new(heap, lower, third)?;
-    let names = ["shelf over chains", "shelf over shelf over chains"];
-    watch(heap, names, shelf, upper, steps)
-}
+    // The spare is split between the shelf and the chains.
+    fn play_over_chains(&self) -> Result<Report, AllocError>
+        ensures { IfOk result (λ w. Shows w (empty_store self.now.sizes (over_chains self.now.sizes.spare)) self.now.steps.now) }
+    {
+        let half = self.sizes.spare / 2;
+        let spare = self.sizes.spare - half;
+        let below = Sizes {
+            spare,
+            ..self.sizes
+        };
+        let shelf = shelf_over_chains(self.heap, below, half)?;
+        self.play_on("shelf over chains", shelf)
+    }
 
-// The four stores with the spare. Where it is 3 to 16, each has all of it, so all show the same.
-pub fn play_with_spare(
-    heap: Global,
-    sizes: Sizes,
-    steps: &[Step],
-) -> Result<[Report; 4], AllocError>
-    ensures each { IfOk result (λ ws. ShowEach ws (reserve_made sizes.reserve) (spares_of sizes.spare) (replicate (slots_made sizes.slots) []) steps.now) }
-    ensures agree { 3 ≤ sizes.spare → sizes.spare ≤ 16 → IfOk result (λ ws. ShowEach ws (reserve_made sizes.reserve) (replicate 4 sizes.spare) (replicate (slots_made sizes.slots) []) steps.now) }
-{
-    let (first, second) = play_whole(heap, sizes, steps)?;
-    let (third, fourth) = play_split(heap, sizes, steps)?;
-    Ok([first, second, third, fourth])
+    // The spare is split between two shelves and the chains.
+    fn play_over_shelf(&self) -> Result<Report, AllocError>
+        ensures { IfOk result (λ w. Shows w (empty_store self.now.sizes (over_shelf self.now.sizes.spare)) self.now.steps.now) }
+    {
+        let third = self.sizes.spare / 3;
+        let spare = self.sizes.spare - 2 * third;
+        let below = Sizes {
+            spare,
+            ..self.sizes
+        };
+        let lower = shelf_over_chains(self.heap, below, third)?;
+        let upper = Shelf::new(self.heap, lower, third)?;
+        self.play_on("shelf over shelf over chains", upper)
+    }
+
+    // Lanes, and chains with no spare.
+    pub fn play_without_spare(&self) -> Result<[Report; 2], AllocError>
+        ensures { IfOk result (λ ws. ShowEach ws (map (empty_store self.now.sizes) (0 ∷ 0 ∷ [])) self.now.steps.now) }
+    {
+        Ok([
+            self.play_on_lanes()?,
+            self.play_on_chains(Sizes {
+                spare: 0,
+                ..self.sizes
+            })?,
+        ])
+    }
+
+    // The four stores with the spare. Where it is 3 to 16, each has all of it, so all show the same.
+    pub fn play_with_spare(&self) -> Result<[Report; 4], AllocError>
+        ensures each { IfOk result (λ ws. ShowEach ws (map (empty_store self.now.sizes) (spares_of self.now.sizes.spare)) self.now.steps.now) }
+        ensures agree { 3 ≤ self.now.sizes.spare → self.now.sizes.spare ≤ 16 → IfOk result (λ ws. ShowEach ws (map (empty_store self.now.sizes) (replicate 4 self.now.sizes.spare)) self.now.steps.now) }
+    {
+        Ok([
+            self.play_on_chains(self.sizes)?,
+            self.play_over_lanes()?,
+            self.play_over_chains()?,
+            self.play_over_shelf()?,
+        ])
+    }
 }

@@ -1,16 +1,16 @@
 // What chains do.
-ghost use Rattle.std.specs.Prelude.{◌≡◌, ◌+◌, ◌-◌, ◌^◌, ◌<◌, false, List, length, slice_set};
+ghost use Rattle.std.specs.Prelude.{◌≡◌, ◌+◌, ◌-◌, ◌^◌, ◌<◌, false, List, length, slice_set, IfSome, MatchOption};
 ghost use Rattle.notice.specs.declared.event.Notice.{Notice};
 ghost use Rattle.store.specs.Meaning.{held, in_use, full, put_at, drop_at};
 ghost use Rattle.chains.specs.Links.{chain_at};
-ghost use Rattle.chains.specs.Held.{chain_lists};
+ghost use Rattle.chains.specs.Lists.{slot_lists};
 ghost use Rattle.std.proofs.Common.{arith, rules};
 
 use super::Chains;
 use super::moves::{follow, shift};
 use crate::chain::Chain;
 use notice::Notice;
-use store::NoticeStore;
+use store::{Full, NoticeStore};
 
 // How much of the spare a slot uses that holds `count` notices.
 fn above(count: usize, reserve: usize) -> usize
@@ -20,37 +20,35 @@ fn above(count: usize, reserve: usize) -> usize
 }
 
 impl Chains {
-    // The chain of a slot; one of no place where there is no such slot.
-    fn chain_of(&self, slot: usize) -> Chain
-        ensures chain { result ≡ chain_at self.now.chains.items (slot + 1) }
-        ensures count { result.count ≡ length (held (chain_lists self.now.places.items self.now.chains.items) slot) }
+    // The chain of a slot; none where there is no such slot.
+    fn chain(&self, slot: usize) -> Option<&Chain>
+        ensures chain { IfSome result (λ c. c.now ≡ chain_at self.now.chains.items (slot + 1)) }
+        ensures count { MatchOption result (length (held (slot_lists self.now) slot) ≡ 0) (λ c. c.now.count ≡ length (held (slot_lists self.now) slot)) }
     {
-        if slot >= self.slots() {
-            return Chain::empty();
-        }
-        self.chains[slot + 1]
+        self.chains[1..].get(slot)
     }
 
     // Whether a slot takes no more.
     fn is_full(&self, slot: usize) -> bool
-        ensures { result ≡ full self.now.reserve self.now.spare (chain_lists self.now.places.items self.now.chains.items) slot }
+        ensures { result ≡ full self.now.reserve self.now.spare (slot_lists self.now) slot }
     {
         slot >= self.slots() || (self.len(slot) >= self.reserve && self.used == self.spare)
     }
 
     // The spare in use, were the list of a slot another one of `count` notices.
+    #[tactic(auto, using(store::proofs::Follows::in_use_part, store::proofs::Follows::in_use_set))]
     fn used_with(&self, slot: usize, count: usize) -> usize
-        requires slot { slot < length (chain_lists self.now.places.items self.now.chains.items) }
+        requires slot { slot < length (slot_lists self.now) }
         requires count { count < 2 ^ 32 }
-        ensures { (l : List Notice) → length l ≡ count → result ≡ in_use self.now.reserve (slice_set (chain_lists self.now.places.items self.now.chains.items) slot l) }
+        ensures { (l : List Notice) → length l ≡ count → result ≡ in_use self.now.reserve (slice_set (slot_lists self.now) slot l) }
     {
         self.used - above(self.len(slot), self.reserve) + above(count, self.reserve)
     }
 
     // Writes the notice on the first free place, and moves that place to the end of the slot's chain.
     fn append(&mut self, slot: usize, notice: Notice)
-        requires { full self.old.reserve self.old.spare (chain_lists self.old.places.items self.old.chains.items) slot ≡ false }
-        ensures lists { chain_lists self.new.places.items self.new.chains.items ≡ put_at (chain_lists self.old.places.items self.old.chains.items) slot notice }
+        requires { full self.old.reserve self.old.spare (slot_lists self.old) slot ≡ false }
+        ensures lists { slot_lists self.new ≡ put_at (slot_lists self.old) slot notice }
         ensures reserve { self.new.reserve ≡ self.old.reserve }
         ensures spare { self.new.spare ≡ self.old.spare }
     {
@@ -63,8 +61,8 @@ impl Chains {
 
     // Moves the first place of the slot's chain to the end of the free ones.
     fn release(&mut self, slot: usize)
-        requires { 0 < length (held (chain_lists self.old.places.items self.old.chains.items) slot) }
-        ensures lists { chain_lists self.new.places.items self.new.chains.items ≡ drop_at (chain_lists self.old.places.items self.old.chains.items) slot }
+        requires { 0 < length (held (slot_lists self.old) slot) }
+        ensures lists { slot_lists self.new ≡ drop_at (slot_lists self.old) slot }
         ensures reserve { self.new.reserve ≡ self.old.reserve }
         ensures spare { self.new.spare ≡ self.old.spare }
     {
@@ -75,7 +73,7 @@ impl Chains {
 }
 
 impl NoticeStore for Chains {
-    ghost lists = { λ s. chain_lists s.places.items s.chains.items };
+    ghost lists = { slot_lists };
 
     ghost reserve = { λ s. s.reserve };
 
@@ -102,11 +100,11 @@ impl NoticeStore for Chains {
     }
 
     fn len(&self, slot: usize) -> usize {
-        self.chain_of(slot).count as usize
+        self.chain(slot).map_or(0, |chain| chain.count as usize)
     }
 
     fn at(&self, slot: usize, place: usize) -> Option<Notice> {
-        let chain = self.chain_of(slot);
+        let chain = self.chain(slot)?;
         if place >= chain.count as usize {
             return None;
         }
@@ -114,22 +112,23 @@ impl NoticeStore for Chains {
         Some(self.places[p as usize].notice)
     }
 
-    fn put(&mut self, slot: usize, notice: Notice) -> bool {
+    fn put(&mut self, slot: usize, notice: Notice) -> Result<(), Full> {
         if self.is_full(slot) {
-            return false;
+            return Err(Full);
         }
         self.append(slot, notice);
-        true
+        Ok(())
     }
 
+    #[tactic(auto, using(store::proofs::Follows::drop_nothing))]
     fn drop_oldest(&mut self, slot: usize) {
-        if self.len(slot) == 0 {
-            return;
+        if self.len(slot) > 0 {
+            self.release(slot);
         }
-        self.release(slot);
     }
 
     // One place after another, so that the time grows with what is cleared.
+    #[tactic(auto, using(store::proofs::Follows::clear_nothing, store::proofs::Follows::clear_dropped, store::proofs::Follows::drop_shortens))]
     fn clear(&mut self, slot: usize) {
         while self.len(slot) > 0 {
             self.drop_oldest(slot);

@@ -1,10 +1,7 @@
-use Rattle.std.proofs.Common.{◌≡◌, ◌-◌, length, drop, vec_items}
+use Rattle.std.proofs.Common.{◌≡◌, drop, vec_items}
 use Rattle.hex_text.specs.Hex.{bytes_of}
-use Rattle.hex_text.proofs.Reading.{after}
+use Rattle.hex_text.proofs.Reading.{after, pairs_of}
 use Rattle.hex_text.proofs.decode.Given as goal
 
-abbrev pub invariant-loop-at : goal.invariant-loop-at
-invariant-loop-at l = after (vec_items l.bytes) (bytes_of (drop l.at l.text)) ≡ bytes_of l.text
-
-abbrev pub decreases-loop-at : goal.decreases-loop-at
-decreases-loop-at l = length l.text - l.at
+abbrev pub invariant-loop-high : goal.invariant-loop-high
+invariant-loop-high l = after (vec_items l.bytes) (pairs_of (drop l.high-index l.pairs) l.rest) ≡ bytes_of l.text

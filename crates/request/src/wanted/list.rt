@@ -1,36 +1,36 @@
 // The subscriptions asked for, as a list that holds at most eight.
-ghost use Rattle.std.specs.Prelude.{◌≡◌, ltb, [], ◌∷◌, ◌++◌, length, if◌then◌else◌, nat_lt};
+ghost use Rattle.std.specs.Prelude.{◌≡◌, ltb, [], ◌∷◌, ◌++◌, length, if◌then◌else◌, is_ok, nat_lt};
 ghost use Rattle.request.specs.Wanted.{asked_in};
 
-use super::{Asked, MOST, Wanted};
+use super::{Asked, MOST, TooMany, Wanted};
 
 impl Wanted {
     pub fn new() -> Wanted
         ensures { asked_in result ≡ [] }
     {
         Wanted {
-            places: [Asked { id: 0, lowest: 0 }; 8],
+            places: [Asked { id: 0, lowest: 0 }; MOST],
             len: 0,
         }
     }
 
-    // One more at the end; false, and no change, where eight are in it.
-    pub fn push(&mut self, asked: Asked) -> bool
-        ensures fits { result ≡ nat_lt (length (asked_in self.old)) 8 }
+    // One more at the end; refused, with no change, where eight are in it.
+    #[tactic(auto, using(crate::proofs::Pushing::asked_count, std::proofs::lemmas::List::take_more_set))]
+    pub fn push(&mut self, asked: Asked) -> Result<(), TooMany>
+        ensures fits { is_ok result ≡ nat_lt (length (asked_in self.old)) 8 }
         ensures items { asked_in self.new ≡ (if ltb (length (asked_in self.old)) 8 then asked_in self.old ++ asked ∷ [] else asked_in self.old) }
     {
-        let at = self.len;
-        if at >= MOST {
-            return false;
+        if self.len >= MOST {
+            return Err(TooMany);
         }
-        self.places[at] = asked;
-        self.len = at + 1;
-        true
+        self.places[self.len] = asked;
+        self.len += 1;
+        Ok(())
     }
 
     pub fn as_slice(&self) -> &[Asked]
         ensures { result.now ≡ asked_in self.now }
     {
-        &self.places[0..self.len]
+        &self.places[..self.len]
     }
 }

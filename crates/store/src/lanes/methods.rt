@@ -1,14 +1,14 @@
 // What lanes do.
-ghost use Rattle.std.specs.Prelude.{◌≡◌, ◌≤◌, false, [], replicate, IfOk, MatchOption};
+ghost use Rattle.std.specs.Prelude.{◌≡◌, [], replicate, IfOk, MatchOption};
 ghost use Rattle.store.specs.Lanes.{lane_lists};
-ghost use Rattle.store.specs.Meaning.{held, full, put_at};
+ghost use Rattle.store.specs.Meaning.{held};
 ghost use Rattle.store.specs.Sizes.{slots_made, reserve_made};
 ghost use Rattle.std.proofs.Common.{arith, rules};
 ghost use Rattle.store.specs.LaneLaws.{lanes_long, none_of_spare};
 
-use super::{Lanes, lane};
-use crate::interface::NoticeStore;
-use crate::sizes;
+use super::Lanes;
+use crate::interface::{Full, NoticeStore};
+use crate::sizes::Size;
 use notice::Notice;
 use std::alloc::{AllocError, Global};
 use std::collections::VecDeque;
@@ -18,14 +18,8 @@ impl Lanes {
     pub fn new(heap: Global, slots: usize, reserve: usize) -> Result<Lanes, AllocError>
         ensures { IfOk result (λ s. (lane_lists s ≡ replicate (slots_made slots) []) × (s.reserve ≡ reserve_made reserve)) }
     {
-        Lanes::with_sizes(heap, sizes::slots(slots), sizes::reserve(reserve))
-    }
-
-    fn with_sizes(heap: Global, slots: usize, reserve: usize) -> Result<Lanes, AllocError>
-        requires slots { slots ≤ 65535 }
-        requires reserve { reserve ≤ 65535 }
-        ensures { IfOk result (λ s. (lane_lists s ≡ replicate slots []) × (s.reserve ≡ reserve)) }
-    {
+        let slots = Size::Slots.nearest(slots);
+        let reserve = Size::Reserve.nearest(reserve);
         let mut lanes = Vec::with_capacity(heap, slots)?;
         for _ in 0..slots {
             lanes.push_reserved(VecDeque::with_capacity(heap, reserve)?);
@@ -37,28 +31,7 @@ impl Lanes {
     fn lane(&self, slot: usize) -> Option<&VecDeque<Notice>>
         ensures { MatchOption result (held (lane_lists self.now) slot ≡ []) (λ q. q.now.items ≡ held (lane_lists self.now) slot) }
     {
-        if slot >= self.lanes.len() {
-            return None;
-        }
-        Some(&self.lanes[slot])
-    }
-
-    // Whether a slot takes no more.
-    fn is_full(&self, slot: usize) -> bool
-        ensures { result ≡ full self.now.reserve 0 (lane_lists self.now) slot }
-    {
-        if slot >= self.lanes.len() {
-            return true;
-        }
-        lane::is_full(self.lanes[slot].len(), self.reserve)
-    }
-
-    fn push(&mut self, slot: usize, notice: Notice)
-        requires { full self.old.reserve 0 (lane_lists self.old) slot ≡ false }
-        ensures lists { lane_lists self.new ≡ put_at (lane_lists self.old) slot notice }
-        ensures reserve { self.new.reserve ≡ self.old.reserve }
-    {
-        self.lanes[slot].push_back_reserved(notice);
+        self.lanes.get(slot)
     }
 }
 
@@ -91,36 +64,34 @@ impl NoticeStore for Lanes {
     }
 
     fn len(&self, slot: usize) -> usize {
-        match self.lane(slot) {
-            Some(lane) => lane.len(),
-            None => 0,
-        }
+        self.lane(slot).map_or(0, |lane| lane.len())
     }
 
     fn at(&self, slot: usize, place: usize) -> Option<Notice> {
-        match self.lane(slot) {
-            Some(lane) => lane::notice_at(lane, place),
-            None => None,
-        }
+        self.lane(slot)?.get(place).copied()
     }
 
-    fn put(&mut self, slot: usize, notice: Notice) -> bool {
-        if self.is_full(slot) {
-            return false;
+    #[tactic(auto, using(crate::proofs::LaneLists::lane_read, crate::proofs::LaneLists::lane_written, crate::specs::LaneLaws::none_of_spare))]
+    fn put(&mut self, slot: usize, notice: Notice) -> Result<(), Full> {
+        let lane = self.lanes.get_mut(slot).ok_or(Full)?;
+        if lane.len() >= self.reserve {
+            return Err(Full);
         }
-        self.push(slot, notice);
-        true
+        lane.push_back_reserved(notice);
+        Ok(())
     }
 
+    #[tactic(auto, using(crate::proofs::LaneLists::lane_read, crate::proofs::LaneLists::lane_written))]
     fn drop_oldest(&mut self, slot: usize) {
-        if slot < self.lanes.len() {
-            lane::drop_first(&mut self.lanes[slot]);
+        if let Some(lane) = self.lanes.get_mut(slot) {
+            lane.pop_front();
         }
     }
 
+    #[tactic(auto, using(crate::proofs::LaneLists::lane_written))]
     fn clear(&mut self, slot: usize) {
-        if slot < self.lanes.len() {
-            lane::drop_all(&mut self.lanes[slot]);
+        if let Some(lane) = self.lanes.get_mut(slot) {
+            lane.clear();
         }
     }
 }

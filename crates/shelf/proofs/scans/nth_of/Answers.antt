@@ -1,22 +1,17 @@
-use Rattle.std.proofs.Common.{sym, arith}
-use Rattle.shelf.proofs.Steps.{counted_yes, counted_no, nth_found, nth_none}
+use Rattle.std.proofs.Common.{◌≡◌, filter, sym, ap, ◌∙◌, rules, tests}
+use Rattle.std.specs.Option.{option_map}
+use Rattle.std.proofs.lemmas.Iterator.{YieldsList-from_slice}
+use Rattle.std.proofs.lemmas.Iterator.Consumers.{YieldsList-from_filter, nth_from_yields_List}
+use Rattle.std.proofs.lemmas.Option.{slice_get-map}
+use Rattle.shelf.specs.declared.entry.Entry.{Entry}
+use Rattle.shelf.specs.Shelf.{is_for}
 use Rattle.shelf.proofs.scans.nth_of.Goals as goal
-use Rattle.shelf.proofs.scans.nth_of.Goals.{then-e-slot+else-left-eq0, else-e-slot}
-
-pub returns-then-left-eq0 : goal.returns-then-left-eq0
-returns-then-left-eq0 c =
-    sym (nth_found c.args.entries.now c.loop-e.e-index c.args.slot c.args.place _ c.loop-e-test.true c.if-e-slot.true (omega (arith, c.loop-e.invariant, c.if-left-eq0.true)))
-
-pub loop-e-preserved : goal.loop-e-preserved
-loop-e-preserved c =
-    elim c.if-e-slot.branch [
-      | then-e-slot+else-left-eq0 w ↦
-          let e = counted_yes c.args.entries.now c.loop-e.e-index c.args.slot _ c.loop-e-test.true w.if-e-slot.true in
-          omega (arith, c.loop-e.invariant)
-      | else-e-slot w ↦
-          let e = counted_no c.args.entries.now c.loop-e.e-index c.args.slot _ c.loop-e-test.true w.if-e-slot.false in
-          omega (arith, c.loop-e.invariant)
-    ]
 
 pub returns : goal.returns
-returns c = sym (nth_none c.args.entries.now c.loop-e.e-index c.args.slot c.args.place c.loop-e-test.false (omega (arith, c.loop-e.invariant)))
+returns c =
+    let es = c.args.entries.now in
+    let test = is_for c.args.slot in
+    let notice_of = λ (e : Entry). e.notice in
+    let found = nth_from_yields_List c.nth.result _ c.args.place c.nth.ensures.ran (YieldsList-from_filter _ test (YieldsList-from_slice es (cc)) c.filter.ensures.closure (λ x r q k. search (rules, tests))) in
+    let told : c.map.result ≡ option_map notice_of (option_map (λ y. y.now) c.nth.result) = search rules in
+    told ∙ ap (option_map notice_of) found ∙ sym (slice_get-map notice_of (filter test es) c.args.place)

@@ -1,29 +1,15 @@
-use Rattle.std.proofs.Common.{List, ap, ◌∙◌, arith}
-use Rattle.notice.specs.declared.event.Notice.{Notice}
+use Rattle.std.proofs.Common.{◌≡◌, not, ◌∙◌, rules}
+use Rattle.std.proofs.lemmas.Fn.{filter_same}
 use Rattle.store.specs.Meaning.{clear_at}
-use Rattle.shelf.specs.declared.entry.Entry.{Entry}
-use Rattle.shelf.specs.Shelf.{extended}
-use Rattle.shelf.specs.Extended.{extended_clear}
-use Rattle.shelf.proofs.Room.{shelf_all}
+use Rattle.shelf.specs.Shelf.{is_for, others}
+use Rattle.shelf.proofs.Changes.{extended_alike, extended_clear}
 use Rattle.shelf.proofs.shelf.methods.ShelfNoticeStore.clear.Goals as goal
 
-pub returns : goal.returns
-returns g c =
+pub returns-clause-lists : goal.returns-clause-lists
+returns-clause-lists g c =
     let i = c.args.slot in
-    let z = c.trim.new.self in
-    let t = c.trim.ensures in
-    let p = c.clear.ensures in
-    let q = c.remove_all.ensures in
-    let fs = c.remove_all.new.entries.items in
-    let ls = g.S.NoticeStore.lists z.lower in
-    let v = ap g.S.NoticeStore.spare t.lower in
-    record {
-      lists = shelf_all (g.S.NoticeStore.lists c.clear.new.self) z.size (g.S.NoticeStore.spare c.clear.new.self) fs
-          (omega (arith, v, t.len, t.limit, t.size, p.spare, q.len, c.remove_all.new.entries.ok.0))
-          ∙ ap (λ (ms : List (List Notice)). extended ms fs) p.lists
-          ∙ ap (λ (xs : List Entry). extended (clear_at ls i) xs) q.items
-          ∙ extended_clear ls z.entries.items i
-          ∙ ap (λ (ms : List (List Notice)). clear_at ms i) t.lists;
-      reserve = p.reserve ∙ ap g.S.NoticeStore.reserve t.lower;
-      spare = omega (arith, v, t.size, p.spare);
-    }
+    let s = c.args.self.now in
+    let ls = g.S.NoticeStore.lists s.lower in
+    let es = s.entries.items in
+    let kept : c.retain.new.self.items ≡ others es i = filter_same _ (λ e. not (is_for i e)) _ (λ x b f' k. search rules) _ _ c.retain.ensures.filtered in
+    extended_alike _ (clear_at ls i) _ (others es i) c.clear.ensures.lists kept ∙ extended_clear ls es i

@@ -1,0 +1,7 @@
+use Rattle.std.proofs.Common.{arith}
+use Rattle.std.proofs.lemmas.Grind.{common_steps}
+use Rattle.chains.proofs.Stored.{found_count}
+use Rattle.chains.proofs.chains.Chains.chain.Goals as goal
+
+pub returns-clause-count : goal.returns-clause-count
+returns-clause-count c = found_count c.args.self.now c.args.slot c.get.result (grind (arith, common_steps)) (grind (arith, common_steps))

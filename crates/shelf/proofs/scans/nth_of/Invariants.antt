@@ -1,6 +1,0 @@
-use Rattle.std.proofs.Common.{◌≡◌, ◌+◌, length, take}
-use Rattle.shelf.specs.Shelf.{waiting}
-use Rattle.shelf.proofs.scans.nth_of.Given as goal
-
-abbrev pub invariant-loop-e : goal.invariant-loop-e
-invariant-loop-e l = l.left + length (waiting (take l.e-index l.entries) l.slot) ≡ l.place

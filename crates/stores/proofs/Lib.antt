@@ -1,4 +1,0 @@
-mod Numbers
-mod Words
-mod Layers
-mod Shown
