@@ -6,7 +6,7 @@ use Rattle.std.specs.List.{AllByRecursion}
 use Rattle.std.specs.Simd.{first_chunks}
 use Rattle.hex_text.specs.declared.HexFault.{HexFault}
 use Rattle.hex_text.specs.declared.HexFault.TheVariants.{Digit, Odd, Memory}
-use Rattle.hex_text.specs.Hex.{digit_of, then, byte_of, bytes_of, Says, char_of, text_of}
+use Rattle.hex_text.specs.Hex.{digit_of, then, byte_of, bytes_of, fault_alone, Says, char_of, text_of}
 
 -- what is read after some bytes
 abbrev pub after : List ℕ → Result (List ℕ) HexFault → Result (List ℕ) HexFault
@@ -44,15 +44,10 @@ after_none (Err e) = refl
 pub all_left : (xs : List ℕ) (ps : List (List ℕ)) (rest : List ℕ) → ps ≡ first_chunks 2 (length xs / 2) xs → rest ≡ drop (length xs / 2 * 2) xs → after [] (pairs_of ps rest) ≡ bytes_of xs
 all_left xs ps rest p q = rw (p, q) (after_none (pairs_of (first_chunks 2 (length xs / 2) xs) (drop (length xs / 2 * 2) xs)) ∙ pairs_read (length xs / 2) xs (omega arith))
 
-alone_fails : (acc rest : List ℕ) (e : HexFault) → length rest ≡ 1 → digit_of (get_or rest 0 0) ≡ Err e → after acc (bytes_of rest) ≡ Err e
-alone_fails acc [] e h d = absurd (omega arith)
-alone_fails acc (a ∷ []) e h d = rw d
-alone_fails acc (a ∷ b ∷ cs) e h d = absurd (omega arith)
-
-alone_is_odd : (acc rest : List ℕ) (n : ℕ) → length rest ≡ 1 → digit_of (get_or rest 0 0) ≡ Ok n → after acc (bytes_of rest) ≡ Err Odd
-alone_is_odd acc [] n h d = absurd (omega arith)
-alone_is_odd acc (a ∷ []) n h d = rw d
-alone_is_odd acc (a ∷ b ∷ cs) n h d = absurd (omega arith)
+alone_is_fault : (acc rest : List ℕ) → length rest ≡ 1 → after acc (bytes_of rest) ≡ Err (fault_alone (digit_of (get_or rest 0 0)))
+alone_is_fault acc [] h = absurd (omega arith)
+alone_is_fault acc (a ∷ []) h = refl
+alone_is_fault acc (a ∷ b ∷ cs) h = absurd (omega arith)
 
 nothing_left : (acc rest : List ℕ) → length rest ≡ 0 → after acc (bytes_of rest) ≡ Ok acc
 nothing_left acc [] h = ap Ok (append-nil acc)
@@ -68,17 +63,14 @@ module _ (ps : List (List ℕ)) (rest : List ℕ) (at : ℕ) (acc : List ℕ) wh
   no_pair_left : length ps ≤ at → after acc (pairs_of (drop at ps) rest) ≡ after acc (bytes_of rest)
   no_pair_left h = at_drop_all (λ qs. after acc (pairs_of qs rest)) ps at h
 
-  pub alone_fault : (e : HexFault) → length ps ≤ at → length rest ≡ 1 → digit_of (get_or rest 0 0) ≡ Err e → after acc (pairs_of (drop at ps) rest) ≡ Err e
-  alone_fault e h l d = no_pair_left h ∙ alone_fails acc rest e l d
-
-  pub alone_odd : (n : ℕ) → length ps ≤ at → length rest ≡ 1 → digit_of (get_or rest 0 0) ≡ Ok n → after acc (pairs_of (drop at ps) rest) ≡ Err Odd
-  alone_odd n h l d = no_pair_left h ∙ alone_is_odd acc rest n l d
+  pub alone_left : length ps ≤ at → length rest ≡ 1 → after acc (pairs_of (drop at ps) rest) ≡ Err (fault_alone (digit_of (get_or rest 0 0)))
+  alone_left h l = no_pair_left h ∙ alone_is_fault acc rest l
 
   pub bytes_done : length ps ≤ at → length rest ≡ 0 → after acc (pairs_of (drop at ps) rest) ≡ Ok acc
   bytes_done h l = no_pair_left h ∙ nothing_left acc rest l
 
 module _ (xs : List ℕ) (at : ℕ) where
-  pub text_left : (acc : List ℕ) → at < length xs → acc ++ text_of (drop at xs) ≡ (acc ++ char_of (get_or xs at 0 / 16) ∷ char_of (get_or xs at 0 % 16) ∷ []) ++ text_of (drop (at + 1) xs)
+  pub text_left : (acc : List ℕ) → at < length xs → acc ++ text_of (drop at xs) ≡ ((acc ++ char_of (get_or xs at 0 / 16) ∷ []) ++ char_of (get_or xs at 0 % 16) ∷ []) ++ text_of (drop (at + 1) xs)
   text_left acc h = at_drop_more (λ ys. acc ++ text_of ys) xs at 0 h ∙ simp append_assoc
 
   pub text_done : (acc : List ℕ) → length xs ≤ at → acc ++ text_of (drop at xs) ≡ acc

@@ -1,10 +1,10 @@
 // Reads requests as lines of hexadecimal text, and says of each what it asks for or how it is refused.
 #![tactic(auto)]
 
-use anyhow::bail;
 use hex_text::HexFault;
 use lines::{LineFault, examine_line};
 use request::Request;
+use std::alloc::AllocError;
 use std::io::{BufRead, BufReader};
 
 mod lines;
@@ -29,7 +29,7 @@ fn show_line(rt: &HostRuntime, number: u64, line: &str) -> anyhow::Result<()> {
             println!(rt; "line {number}: request")?;
             show_request(rt, &request)?;
         }
-        Err(LineFault::Hex(HexFault::Memory)) => bail!("line {number}: {}", HexFault::Memory),
+        Err(LineFault::Hex(HexFault::Memory)) => return Err(AllocError {}.into()),
         Err(fault) => println!(rt; "line {number}: {fault}")?,
     }
     Ok(())

@@ -72,5 +72,9 @@ values_in v = values_from v.next
 abbrev pub named_of : Attribute → Named
 named_of a = record { name = a.name.now; values = values_in a.values }
 
+abbrev pub attributes_from : Option (Attribute × Items) → List Named
+attributes_from None = []
+attributes_from (Some p) = named_of p.0 ∷ attributes (items_in p.1)
+
 abbrev pub attributes_in : Attributes → List Named
 attributes_in a = attributes (items_in a.items)

@@ -1,8 +1,8 @@
 // The attributes of a group.
-ghost use Rattle.std.specs.Prelude.{◌≡◌};
+ghost use Rattle.std.specs.Prelude.{◌≡◌, ◌<◌, ◌≤◌, length, IfSome};
 ghost use Rattle.std.specs.Iterator.{YieldsFirstBy, item_count};
 ghost use Rattle.ipp.specs.declared.attributes.Fault.TheVariants.{Bytes};
-ghost use Rattle.ipp.specs.Attributes.{attributes, attributes_in, distinct_names, named_of, values_in, values_of};
+ghost use Rattle.ipp.specs.Attributes.{attributes, attributes_from, attributes_in, distinct_names, named_of, values_in, values_of};
 ghost use Rattle.ipp.specs.Walk.{items_in};
 
 use crate::bytes;
@@ -49,6 +49,32 @@ impl Error for Fault {}
 pub struct Attribute<'a> {
     pub name: &'a [u8],
     pub values: Values<'a>,
+}
+
+// The first attribute among the items in their group, and the items behind its first value.
+pub fn next_attribute<'a>(mut items: Items<'a>) -> Option<(Attribute<'a>, Items<'a>)>
+    ensures attributes { attributes_from result ≡ attributes (items_in items.entry) }
+    ensures within { IfSome result (λ p. (items.entry.at < p.1.at) × (p.1.at ≤ length items.entry.src.now)) }
+    ensures src { IfSome result (λ p. p.1.src.now ≡ items.entry.src.now) }
+{
+    while let Some(item) = items.next() {
+        match item {
+            Item::Attribute { tag, name, value } => {
+                let first = Value {
+                    tag,
+                    bytes: value.bytes,
+                };
+                let attribute = Attribute {
+                    name: name.bytes,
+                    values: Values::new(first, items),
+                };
+                return Some((attribute, items));
+            }
+            Item::Further { .. } => {}
+            _ => return None,
+        }
+    }
+    None
 }
 
 // The attributes of a group, from an item on.
@@ -99,24 +125,8 @@ impl<'a> Iterator for Attributes<'a> {
 
     // The walk does not go past the mark behind the group, so that nothing comes after the last attribute.
     fn next(&mut self) -> Option<Attribute<'a>> {
-        let mut items = self.items;
-        while let Some(item) = items.next() {
-            match item {
-                Item::Attribute { tag, name, value } => {
-                    let first = Value {
-                        tag,
-                        bytes: value.bytes,
-                    };
-                    self.items = items;
-                    return Some(Attribute {
-                        name: name.bytes,
-                        values: Values::new(first, items),
-                    });
-                }
-                Item::Further { .. } => {}
-                _ => return None,
-            }
-        }
-        None
+        let (attribute, behind) = next_attribute(self.items)?;
+        self.items = behind;
+        Some(attribute)
     }
 }

@@ -1,6 +1,6 @@
 // The items of a request: group marks, attributes, further values and the end.
-ghost use Rattle.std.specs.Prelude.{◌≡◌, ◌<◌, ◌≤◌, ◌+◌, false, length, IfOk};
-ghost use Rattle.std.specs.Iterator.{YieldsFirstBy, item_count};
+ghost use Rattle.std.specs.Prelude.{◌≡◌, ◌<◌, ◌≤◌, ◌+◌, false, length, ⊤, IfOk, IfSome};
+ghost use Rattle.std.specs.Iterator.{MakesProgress, YieldsFirstBy, item_count};
 ghost use Rattle.ipp.specs.Attributes.{any_mark, is_mark};
 ghost use Rattle.ipp.specs.declared.attributes.Fault.TheVariants.{Bytes};
 ghost use Rattle.ipp.specs.Bytes.{counted_at};
@@ -79,12 +79,14 @@ fn next_value<'a>(src: &'a [u8], at: usize, tag: u8) -> Result<(Item<'a>, usize)
 #[derive(Clone, Copy, Debug)]
 pub struct Items<'a> {
     src: &'a [u8],
-    at: usize,
+    // where the first of them stands
+    pub at: usize,
 }
 
 impl<'a> Items<'a> {
     pub fn new(src: &'a [u8], at: usize) -> Items<'a>
-        ensures { items_in result ≡ items_from src.now at }
+        ensures items { items_in result ≡ items_from src.now at }
+        ensures from { (result.src.now ≡ src.now) × (result.at ≡ at) }
     {
         Items { src, at }
     }
@@ -104,8 +106,14 @@ impl<'a> Iterator for Items<'a> {
 
     ghost remaining = { item_count items_in };
 
+    // Those that are left stand behind the item.
     #[tactic(auto, using(crate::proofs::Walking::items_are, crate::proofs::Walking::linked_more))]
-    fn next(&mut self) -> Option<Item<'a>> {
+    fn next(&mut self) -> Option<Item<'a>>
+        ensures steps { YieldsFirstBy piece_of items_in self.old result self.new }
+        ensures goes { MakesProgress (λ _. ⊤) (item_count items_in) self.old result self.new }
+        ensures within { IfSome result (λ _. (self.old.at < self.new.at) × (self.new.at ≤ length self.old.src.now)) }
+        ensures src { self.new.src ≡ self.old.src }
+    {
         let Ok((item, next)) = next_item(self.src, self.at) else {
             return None;
         };

@@ -1,8 +1,8 @@
 // The values of an attribute.
-ghost use Rattle.std.specs.Prelude.{◌≡◌, not, [], ◌∷◌, option_map, slice_get, ◌==◌};
+ghost use Rattle.std.specs.Prelude.{◌≡◌, ◌<◌, ◌≤◌, not, [], ◌∷◌, length, option_map, slice_get, ◌==◌, IfSome};
 ghost use Rattle.std.specs.Iterator.{YieldsFirstBy, item_count};
 ghost use Rattle.std.specs.List.{list_all};
-ghost use Rattle.ipp.specs.Attributes.{furthers, tagged, values_in};
+ghost use Rattle.ipp.specs.Attributes.{furthers, tagged, values_from, values_in};
 ghost use Rattle.ipp.specs.Conditions.{distinct_numbers, number_in};
 ghost use Rattle.ipp.specs.Values.{boolean_of, integer_of, positive_of};
 ghost use Rattle.ipp.specs.Walk.{items_in};
@@ -67,11 +67,18 @@ impl<'a> Values<'a> {
         true
     }
 
-    // Whether each number among them is another than `n`.
+    // Whether each number among them is another than `n`. Not by `all`, which reads the value behind one
+    // before it looks at that one: 1.6 times the instructions for a request full of ids.
     fn all_differ_from(mut self, n: u32) -> bool
         ensures { result ≡ list_all (λ v. not (number_in v.1 == n)) (values_in self.entry) }
     {
-        self.all(|value| value.differs_from(n))
+        while let Some((value, behind)) = self.next {
+            if !value.differs_from(n) {
+                return false;
+            }
+            self.next = further_value(behind);
+        }
+        true
     }
 }
 
@@ -84,21 +91,23 @@ impl<'a> Iterator for Values<'a> {
 
     fn next(&mut self) -> Option<Value<'a>> {
         let (value, behind) = self.next?;
-        *self = further_values(behind);
+        self.next = further_value(behind);
         Some(value)
     }
 }
 
-// The further values that the items begin with.
-fn further_values<'a>(mut items: Items<'a>) -> Values<'a>
-    ensures { values_in result ≡ furthers (items_in items.entry) }
+// The further value that the items begin with, and the items behind it.
+pub fn further_value<'a>(mut items: Items<'a>) -> Option<(Value<'a>, Items<'a>)>
+    ensures values { values_from result ≡ furthers (items_in items.entry) }
+    ensures within { IfSome result (λ p. (items.entry.at < p.1.at) × (p.1.at ≤ length items.entry.src.now)) }
+    ensures src { IfSome result (λ p. p.1.src.now ≡ items.entry.src.now) }
 {
-    match items.next() {
-        Some(Item::Further { tag, value }) => {
+    match items.next()? {
+        Item::Further { tag, value } => {
             let bytes = value.bytes;
-            Values::new(Value { tag, bytes }, items)
+            Some((Value { tag, bytes }, items))
         }
-        _ => Values::none(),
+        _ => None,
     }
 }
 

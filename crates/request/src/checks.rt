@@ -1,11 +1,12 @@
 // The rules on the attributes of the operation group.
-ghost use Rattle.std.specs.Prelude.{◌≡◌};
+ghost use Rattle.std.specs.Prelude.{◌≡◌, ◌==◌, is_ok};
 ghost use Rattle.ipp.specs.Attributes.{attributes_in, named_of, values_in};
+ghost use Rattle.ipp.specs.Values.{positive_of};
 ghost use Rattle.request.specs.Rules.{all_from_one, all_named, all_tagged, checked, good_ids, good_numbers, good_wait, is_named, leading, operands_in, operands_of, only_plural, outcome_in, single, starts};
 
 use crate::{Fault, Operands};
 use ipp::attributes::{Attribute, Attributes};
-use ipp::values::{Values, boolean, positive};
+use ipp::values::{Value, Values, boolean, positive};
 
 // Tags stay numbers: any from 0x10 on may stand in a request, and the rules look at these five.
 pub const INTEGER: u8 = 0x21;
@@ -25,18 +26,32 @@ fn starts(values: Values, tag: u8) -> bool
     values.first().is_some_and(|first| first.tag == tag)
 }
 
+// Whether a value is an integer from 1 on.
+fn is_from_one(value: Value) -> bool
+    ensures { result ≡ is_ok (positive_of value.entry.bytes.now) }
+{
+    positive(value.bytes).is_ok()
+}
+
+// Whether a value has that tag.
+fn is_tagged(value: Value, tag: u8) -> bool
+    ensures { result ≡ (value.entry.tag == tag) }
+{
+    value.tag == tag
+}
+
 // Whether each value is an integer from 1 on.
 fn all_from_one(mut values: Values) -> bool
     ensures { result ≡ all_from_one (values_in values.entry) }
 {
-    values.all(|value| positive(value.bytes).is_ok())
+    values.all(|value| is_from_one(value))
 }
 
 // Whether each value has that tag.
 fn all_tagged(mut values: Values, tag: u8) -> bool
     ensures { result ≡ all_tagged tag (values_in values.entry) }
 {
-    values.all(|value| value.tag == tag)
+    values.all(|value| is_tagged(value, tag))
 }
 
 // Whether an attribute has that name, and its first value that tag.

@@ -1,7 +1,7 @@
 -- The lists of a store with what waits for each slot behind them, after each change of the store or of the entries.
-use Rattle.std.proofs.Common.{◌≡◌, ℕ, suc, ◌+◌, ◌<◌, ◌≤◌, ◌≢◌, List, [], ◌∷◌, ◌++◌, length, get_or, take, drop, set, refl, sym, ap, ◌∙◌, inl, inr, arith}
+use Rattle.std.proofs.Common.{◌≡◌, ℕ, suc, ◌+◌, ◌<◌, ◌≤◌, ◌≢◌, List, [], ◌∷◌, ◌++◌, length, get_or, take, drop, set, not, refl, sym, ap, ◌∙◌, inl, inr, arith}
 use Rattle.std.specs.List.{All, count_by, remove}
-use Rattle.std.proofs.lemmas.List.Elements.{All-append, All-drop, All-head, All-same, All-tail, All-take, All-weaker}
+use Rattle.std.proofs.lemmas.List.Elements.{All-append, All-drop, All-filter, All-head, All-same, All-tail, All-take, All-weaker}
 use Rattle.std.proofs.lemmas.List.{append_assoc, append-nil, drop-append-le, ext_get_or, get_or_past, get_or-set_same, get_or-set_other, length-append, length-set, nil_from_length}
 use Rattle.std.proofs.lemmas.List.Sums.{count_by-le-length}
 use Rattle.std.proofs.lemmas.Bool.{cases_lt, cases_eq}
@@ -60,7 +60,7 @@ extended_move ls es j e h g z =
     ∙ extended_same ls ls es (e ∷ remove es j) refl (λ k lt. ap (λ (ns : List Notice). held ls k ++ ns) (brought_forward es j e h g z k))
 
 -- one list changes; none where there is no such slot
-extended_set : (ls ms : List (List Notice)) (es fs : List Entry) (i : ℕ) (l : List Notice) → length ms ≡ length ls → (i < length ls → held ms i ++ waiting fs i ≡ l) → ((k : ℕ) → k ≢ i → held ms k ++ waiting fs k ≡ held ls k ++ waiting es k) → extended ms fs ≡ set (extended ls es) i l
+pub extended_set : (ls ms : List (List Notice)) (es fs : List Entry) (i : ℕ) (l : List Notice) → length ms ≡ length ls → (i < length ls → held ms i ++ waiting fs i ≡ l) → ((k : ℕ) → k ≢ i → held ms k ++ waiting fs k ≡ held ls k ++ waiting es k) → extended ms fs ≡ set (extended ls es) i l
 extended_set ls ms es fs i l n here rest =
     ext_get_or [] (extended ms fs) (set (extended ls es) i l) (length_extended ms fs ∙ n ∙ sym (length_extended ls es) ∙ sym (length-set (extended ls es) i l))
     (λ k lt.
@@ -117,6 +117,14 @@ extended_clear ls es i =
     extended_set ls (clear_at ls i) es (others es i) i [] (length-set ls i [])
     (λ h. ap (λ (ns : List Notice). held (set ls i []) i ++ ns) (others_here es i) ∙ append-nil (held (set ls i []) i) ∙ get_or-set_same ls i [] [] h)
     (λ k ne. ap (λ (ns : List Notice). ns ++ waiting (others es i) k) (get_or-set_other ls i k [] [] ne) ∙ ap (λ (ns : List Notice). held ls k ++ ns) (others_other es i k ne))
+
+-- the same, where the store's lists and the entries are those of a slot emptied; every entry that is left is for a slot that is there
+module _ (ls ms : List (List Notice)) (es fs : List Entry) (i : ℕ) (p : ms ≡ clear_at ls i) (q : fs ≡ others es i) where
+  pub cleared : extended ms fs ≡ clear_at (extended ls es) i
+  cleared = extended_alike ms (clear_at ls i) fs (others es i) p q ∙ extended_clear ls es i
+
+  pub placed_cleared : Placed ls es → Placed ms fs
+  placed_cleared h = placed_after ls ms (others es i) fs (ap (λ (ks : List (List Notice)). length ks) p ∙ length-set ls i []) q (All-filter (λ e. not (is_for i e)) (λ e. e.slot < length ls) es h)
 
 -- each entry uses one of the spare where its slot holds the reserve or more in the store
 pub in_use_all : (r : ℕ) (ls : List (List Notice)) (es : List Entry) → All (λ e. (e.slot < length ls) × (r ≤ length (held ls e.slot))) es → in_use r (extended ls es) ≡ in_use r ls + length es

@@ -41,7 +41,7 @@ module _ (es : List Entry) (j : ℕ) (e : Entry) (h : j < length es) (g : e ≡ 
   parted : es ≡ take j es ++ e ∷ drop (suc j) es
   parted = sym (take-append-drop j es) ∙ ap (λ (xs : List Entry). take j es ++ xs) (drop-cons es j e h ∙ ap (λ (x : Entry). x ∷ drop (suc j) es) (sym g))
 
-  waiting_parted : (i : ℕ) → waiting es i ≡ waiting (take j es) i ++ waiting (e ∷ drop (suc j) es) i
+  pub waiting_parted : (i : ℕ) → waiting es i ≡ waiting (take j es) i ++ waiting (e ∷ drop (suc j) es) i
   waiting_parted i = ap (λ (xs : List Entry). waiting xs i) parted ∙ waiting_append (take j es) (e ∷ drop (suc j) es) i
 
   pub removed_first : (i : ℕ) → e.slot ≡ i → waiting (take j es) i ≡ [] → waiting es i ≡ e.notice ∷ waiting (remove es j) i

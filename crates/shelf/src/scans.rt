@@ -1,7 +1,7 @@
 // Searches among the entries of a shelf.
 ghost use Rattle.std.specs.Prelude.{◌≡◌, ◌≤◌, count_by, vec_len, vec_capacity};
 ghost use Rattle.std.specs.List.{slice_get};
-ghost use Rattle.shelf.specs.Shelf.{is_for, waiting, without_oldest};
+ghost use Rattle.shelf.specs.Shelf.{is_for, others, waiting, without_oldest};
 
 use crate::entry::Entry;
 use notice::Notice;
@@ -33,4 +33,13 @@ pub fn remove_first(entries: &mut Vec<Entry>, slot: usize)
     if let Some(first) = entries.iter().position(|e| e.slot == slot) {
         let _ = entries.remove(first);
     }
+}
+
+// Takes off every entry of a slot; the others stay in their order.
+pub fn remove_all(entries: &mut Vec<Entry>, slot: usize)
+    ensures items { entries.new.items ≡ others entries.old.items slot }
+    ensures len { vec_len entries.new ≤ vec_len entries.old }
+    ensures capacity { vec_capacity entries.new ≡ vec_capacity entries.old }
+{
+    entries.retain(|e| e.slot != slot);
 }

@@ -5,7 +5,7 @@ ghost use Rattle.script.specs.Script.{contents};
 ghost use Rattle.stores.specs.Groups.{Shows, ShowEach, empty_store, over_chains, over_shelf, spares_of};
 
 use chains::Chains;
-use script::{Seen, Step, play};
+use script::{Seen, Step, play, play_both};
 use shelf::Shelf;
 use std::alloc::{AllocError, Global};
 use store::{Lanes, NoticeStore, Sizes};
@@ -48,18 +48,35 @@ impl Script<'_> {
         Ok(Report { name, sizes, seen })
     }
 
-    fn play_on_lanes(&self) -> Result<Report, AllocError>
-        ensures { IfOk result (λ w. Shows w (empty_store self.now.sizes 0) self.now.steps.now) }
+    // The script on two stores, each with its name.
+    fn play_on_both<S: NoticeStore + Drop, T: NoticeStore + Drop>(
+        &self,
+        names: [&'static str; 2],
+        mut first: S,
+        mut second: T,
+    ) -> Result<[Report; 2], AllocError>
+        ensures { IfOk result (λ ws. ShowEach ws (contents S.NoticeStore first ∷ contents T.NoticeStore second ∷ []) self.now.steps.now) }
     {
-        let lanes = Lanes::new(self.heap, self.sizes.slots, self.sizes.reserve)?;
-        self.play_on("lanes", lanes)
+        let sizes = [first.sizes(), second.sizes()];
+        let seen = play_both(self.heap, &mut first, &mut second, self.steps)?;
+        Ok([
+            Report {
+                name: names[0],
+                sizes: sizes[0],
+                seen: seen.0,
+            },
+            Report {
+                name: names[1],
+                sizes: sizes[1],
+                seen: seen.1,
+            },
+        ])
     }
 
-    // The sizes are those of the script, or the same with no spare.
-    fn play_on_chains(&self, sizes: Sizes) -> Result<Report, AllocError>
-        ensures { IfOk result (λ w. Shows w (empty_store sizes (spare_made sizes.spare)) self.now.steps.now) }
+    fn play_on_chains(&self) -> Result<Report, AllocError>
+        ensures { IfOk result (λ w. Shows w (empty_store self.now.sizes (spare_made self.now.sizes.spare)) self.now.steps.now) }
     {
-        let chains = Chains::new(self.heap, sizes)?;
+        let chains = Chains::new(self.heap, self.sizes)?;
         self.play_on("chains", chains)
     }
 
@@ -100,17 +117,17 @@ impl Script<'_> {
         self.play_on("shelf over shelf over chains", upper)
     }
 
-    // Lanes, and chains with no spare.
+    // Lanes, and chains with no spare: two stores with the same contents, so both show the same.
     pub fn play_without_spare(&self) -> Result<[Report; 2], AllocError>
         ensures { IfOk result (λ ws. ShowEach ws (map (empty_store self.now.sizes) (0 ∷ 0 ∷ [])) self.now.steps.now) }
     {
-        Ok([
-            self.play_on_lanes()?,
-            self.play_on_chains(Sizes {
-                spare: 0,
-                ..self.sizes
-            })?,
-        ])
+        let plain = Sizes {
+            spare: 0,
+            ..self.sizes
+        };
+        let lanes = Lanes::new(self.heap, plain.slots, plain.reserve)?;
+        let chains = Chains::new(self.heap, plain)?;
+        self.play_on_both(["lanes", "chains"], lanes, chains)
     }
 
     // The four stores with the spare. Where it is 3 to 16, each has all of it, so all show the same.
@@ -119,7 +136,7 @@ impl Script<'_> {
         ensures agree { 3 ≤ self.now.sizes.spare → self.now.sizes.spare ≤ 16 → IfOk result (λ ws. ShowEach ws (map (empty_store self.now.sizes) (replicate 4 self.now.sizes.spare)) self.now.steps.now) }
     {
         Ok([
-            self.play_on_chains(self.sizes)?,
+            self.play_on_chains()?,
             self.play_over_lanes()?,
             self.play_over_chains()?,
             self.play_over_shelf()?,

@@ -1,5 +1,5 @@
 // What chains do.
-ghost use Rattle.std.specs.Prelude.{◌≡◌, ◌+◌, ◌-◌, ◌^◌, ◌<◌, false, List, length, slice_set, IfSome, MatchOption};
+ghost use Rattle.std.specs.Prelude.{◌≡◌, ◌+◌, ◌-◌, ◌^◌, ◌<◌, ◌≤◌, false, List, length, slice_set, IfNone, IfSome, MatchOption};
 ghost use Rattle.notice.specs.declared.event.Notice.{Notice};
 ghost use Rattle.store.specs.Meaning.{held, in_use, full, put_at, drop_at};
 ghost use Rattle.chains.specs.Links.{chain_at};
@@ -23,6 +23,7 @@ impl Chains {
     // The chain of a slot; none where there is no such slot.
     fn chain(&self, slot: usize) -> Option<&Chain>
         ensures chain { IfSome result (λ c. c.now ≡ chain_at self.now.chains.items (slot + 1)) }
+        ensures none { IfNone result (length (slot_lists self.now) ≤ slot) }
         ensures count { MatchOption result (length (held (slot_lists self.now) slot) ≡ 0) (λ c. c.now.count ≡ length (held (slot_lists self.now) slot)) }
     {
         self.chains[1..].get(slot)

@@ -1,6 +1,6 @@
 use Rattle.std.proofs.Common.{vec_items, sym, ◌∙◌, arith, rules}
 use Rattle.std.proofs.lemmas.Result.{err_from_is_err_and}
-use Rattle.hex_text.proofs.Reading.{says, all_left, fault_left, byte_read, alone_fault, alone_odd, bytes_done}
+use Rattle.hex_text.proofs.Reading.{says, all_left, fault_left, byte_read, bytes_done}
 use Rattle.hex_text.proofs.decode.Goals as goal
 
 pub loop-high-init : goal.loop-high-init
@@ -14,16 +14,6 @@ returns-in_err-byte c =
     let p = err_from_is_err_and c.from_residual.result c.from_residual.ensures.1 in
     let fault = fault_left c.as_chunks.result.0.now c.as_chunks.result.1.now c.loop-high.high-index (vec_items c.loop-high.bytes) _ (omega arith) (sym c.in_err-byte.ensures) in
     rw (p.1, p.2) (says _ _ (sym c.loop-high.invariant ∙ fault))
-
-pub returns-in_err-digit-in-len1-up : goal.returns-in_err-digit-in-len1-up
-returns-in_err-digit-in-len1-up c =
-    let p = err_from_is_err_and c.from_residual-in_err-digit-in-len1-up.result c.from_residual-in_err-digit-in-len1-up.ensures.1 in
-    let fault = alone_fault c.as_chunks.result.0.now c.as_chunks.result.1.now c.loop-high.high-index (vec_items c.loop-high.bytes) _ (omega arith) (omega arith) (sym c.in_err-digit-in-len1-up.ensures.value) in
-    rw (p.1, p.2) (says _ _ (sym c.loop-high.invariant ∙ fault))
-
-pub returns-in_ok-digit-in-len1-up : goal.returns-in_ok-digit-in-len1-up
-returns-in_ok-digit-in-len1-up c =
-    sym c.loop-high.invariant ∙ alone_odd c.as_chunks.result.0.now c.as_chunks.result.1.now c.loop-high.high-index (vec_items c.loop-high.bytes) _ (omega arith) (omega arith) (sym c.in_ok-digit-in-len1-up.ensures.value)
 
 pub returns-in-empty : goal.returns-in-empty
 returns-in-empty c = search (rules, bytes_done)

@@ -6,7 +6,7 @@ ghost use Rattle.shelf.specs.Extended.{length_extended, in_use_most};
 
 use super::Shelf;
 use crate::entry::Entry;
-use crate::scans::{count_of, nth_of, remove_first};
+use crate::scans::{count_of, nth_of, remove_all, remove_first};
 use notice::Notice;
 use store::{Full, NoticeStore};
 
@@ -74,8 +74,9 @@ impl<S: NoticeStore> NoticeStore for Shelf<S> {
         }
     }
 
+    #[tactic(auto, using(crate::proofs::Changes::cleared, crate::proofs::Changes::placed_cleared))]
     fn clear(&mut self, slot: usize) {
         self.lower.clear(slot);
-        self.entries.retain(|e| e.slot != slot);
+        remove_all(&mut self.entries, slot);
     }
 }
