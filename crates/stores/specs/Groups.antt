@@ -1,5 +1,5 @@
 -- What the stores of a group show of a script.
-use Rattle.std.specs.Prelude.{◌≡◌, ℕ, ◌+◌, ◌-◌, ◌*◌, ◌/◌, List, [], ◌∷◌, length, replicate, vec_items}
+use Rattle.std.specs.Prelude.{◌≡◌, ℕ, ◌+◌, ◌-◌, ◌*◌, ◌/◌, List, [], ◌∷◌, length, map, replicate, vec_items}
 use Rattle.store.specs.Sizes.{slots_made, reserve_made, spare_made, shelf_made}
 use Rattle.script.specs.declared.steps.Step.{Step}
 use Rattle.script.specs.Script.{Contents, seen_all}
@@ -17,6 +17,10 @@ ShowEach [] [] steps = Unit {0}
 ShowEach [] (c ∷ cs) steps = ⊥
 ShowEach (w ∷ ws) [] steps = ⊥
 ShowEach (w ∷ ws) (c ∷ cs) steps = Shows w c steps × ShowEach ws cs steps
+
+-- the names by which the stores of a group are told
+abbrev pub names_in : List Report → List (List ℕ)
+names_in = map (λ (w : Report). w.name.now)
 
 -- a store with the spare v that is made with these slots and this reserve, and holds nothing
 abbrev pub empty_store : Sizes → ℕ → Contents

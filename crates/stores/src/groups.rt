@@ -1,8 +1,8 @@
 // The stores that a script is played on: two with no spare, and four that have one.
-ghost use Rattle.std.specs.Prelude.{◌≡◌, ◌+◌, ◌≤◌, [], ◌∷◌, map, replicate, IfOk};
+ghost use Rattle.std.specs.Prelude.{◌≡◌, ◌+◌, ◌≤◌, [], ◌∷◌, codes, map, replicate, IfOk};
 ghost use Rattle.store.specs.Sizes.{spare_made, shelf_made};
 ghost use Rattle.script.specs.Script.{contents};
-ghost use Rattle.stores.specs.Groups.{Shows, ShowEach, empty_store, over_chains, over_shelf, spares_of};
+ghost use Rattle.stores.specs.Groups.{Shows, ShowEach, empty_store, names_in, over_chains, over_shelf, spares_of};
 
 use chains::Chains;
 use script::{Seen, Step, play, play_both};
@@ -41,7 +41,8 @@ impl Script<'_> {
         name: &'static str,
         mut store: S,
     ) -> Result<Report, AllocError>
-        ensures { IfOk result (λ w. Shows w (contents S.NoticeStore store) self.now.steps.now) }
+        ensures named { IfOk result (λ w. w.name.now ≡ name.now) }
+        ensures shows { IfOk result (λ w. Shows w (contents S.NoticeStore store) self.now.steps.now) }
     {
         let sizes = store.sizes();
         let seen = play(self.heap, &mut store, self.steps)?;
@@ -55,7 +56,8 @@ impl Script<'_> {
         mut first: S,
         mut second: T,
     ) -> Result<[Report; 2], AllocError>
-        ensures { IfOk result (λ ws. ShowEach ws (contents S.NoticeStore first ∷ contents T.NoticeStore second ∷ []) self.now.steps.now) }
+        ensures named { IfOk result (λ ws. names_in ws ≡ map (λ n. n.now) names.entry) }
+        ensures shows { IfOk result (λ ws. ShowEach ws (contents S.NoticeStore first ∷ contents T.NoticeStore second ∷ []) self.now.steps.now) }
     {
         let sizes = [first.sizes(), second.sizes()];
         let seen = play_both(self.heap, &mut first, &mut second, self.steps)?;
@@ -74,14 +76,16 @@ impl Script<'_> {
     }
 
     fn play_on_chains(&self) -> Result<Report, AllocError>
-        ensures { IfOk result (λ w. Shows w (empty_store self.now.sizes (spare_made self.now.sizes.spare)) self.now.steps.now) }
+        ensures named { IfOk result (λ w. w.name.now ≡ codes "chains") }
+        ensures shows { IfOk result (λ w. Shows w (empty_store self.now.sizes (spare_made self.now.sizes.spare)) self.now.steps.now) }
     {
         let chains = Chains::new(self.heap, self.sizes)?;
         self.play_on("chains", chains)
     }
 
     fn play_over_lanes(&self) -> Result<Report, AllocError>
-        ensures { IfOk result (λ w. Shows w (empty_store self.now.sizes (shelf_made self.now.sizes.spare)) self.now.steps.now) }
+        ensures named { IfOk result (λ w. w.name.now ≡ codes "shelf over lanes") }
+        ensures shows { IfOk result (λ w. Shows w (empty_store self.now.sizes (shelf_made self.now.sizes.spare)) self.now.steps.now) }
     {
         let lanes = Lanes::new(self.heap, self.sizes.slots, self.sizes.reserve)?;
         let shelf = Shelf::new(self.heap, lanes, self.sizes.spare)?;
@@ -90,7 +94,8 @@ impl Script<'_> {
 
     // The spare is split between the shelf and the chains.
     fn play_over_chains(&self) -> Result<Report, AllocError>
-        ensures { IfOk result (λ w. Shows w (empty_store self.now.sizes (over_chains self.now.sizes.spare)) self.now.steps.now) }
+        ensures named { IfOk result (λ w. w.name.now ≡ codes "shelf over chains") }
+        ensures shows { IfOk result (λ w. Shows w (empty_store self.now.sizes (over_chains self.now.sizes.spare)) self.now.steps.now) }
     {
         let half = self.sizes.spare / 2;
         let spare = self.sizes.spare - half;
@@ -104,7 +109,8 @@ impl Script<'_> {
 
     // The spare is split between two shelves and the chains.
     fn play_over_shelf(&self) -> Result<Report, AllocError>
-        ensures { IfOk result (λ w. Shows w (empty_store self.now.sizes (over_shelf self.now.sizes.spare)) self.now.steps.now) }
+        ensures named { IfOk result (λ w. w.name.now ≡ codes "shelf over shelf over chains") }
+        ensures shows { IfOk result (λ w. Shows w (empty_store self.now.sizes (over_shelf self.now.sizes.spare)) self.now.steps.now) }
     {
         let third = self.sizes.spare / 3;
         let spare = self.sizes.spare - 2 * third;
@@ -119,7 +125,8 @@ impl Script<'_> {
 
     // Lanes, and chains with no spare: two stores with the same contents, so both show the same.
     pub fn play_without_spare(&self) -> Result<[Report; 2], AllocError>
-        ensures { IfOk result (λ ws. ShowEach ws (map (empty_store self.now.sizes) (0 ∷ 0 ∷ [])) self.now.steps.now) }
+        ensures named { IfOk result (λ ws. names_in ws ≡ codes "lanes" ∷ codes "chains" ∷ []) }
+        ensures each { IfOk result (λ ws. ShowEach ws (map (empty_store self.now.sizes) (0 ∷ 0 ∷ [])) self.now.steps.now) }
     {
         let plain = Sizes {
             spare: 0,
@@ -132,6 +139,7 @@ impl Script<'_> {
 
     // The four stores with the spare. Where it is 3 to 16, each has all of it, so all show the same.
     pub fn play_with_spare(&self) -> Result<[Report; 4], AllocError>
+        ensures named { IfOk result (λ ws. names_in ws ≡ codes "chains" ∷ codes "shelf over lanes" ∷ codes "shelf over chains" ∷ codes "shelf over shelf over chains" ∷ []) }
         ensures each { IfOk result (λ ws. ShowEach ws (map (empty_store self.now.sizes) (spares_of self.now.sizes.spare)) self.now.steps.now) }
         ensures agree { 3 ≤ self.now.sizes.spare → self.now.sizes.spare ≤ 16 → IfOk result (λ ws. ShowEach ws (map (empty_store self.now.sizes) (replicate 4 self.now.sizes.spare)) self.now.steps.now) }
     {
